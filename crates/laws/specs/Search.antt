@@ -1,0 +1,25 @@
+-- The least number that passes a test, and the first place of the least value.
+-- Assumes nothing.
+use mathlib.Core.Bool.{Bool, true, false, cond}
+use Prim.Native.Nat.{ℕ, zero, suc}
+use lib.IntN.{ℤ}
+use lib.Signed.{ltZ}
+
+pub data Found : Type 0 where
+  at : ℕ → Found
+  nowhere : Found
+
+-- the least of the `many` numbers from `start` on that passes
+unfoldable pub least-from : (ℕ → Bool) → ℕ → ℕ → Found
+least-from test zero start = nowhere
+least-from test (suc many) start = elim (test start) [ true ↦ at start | false ↦ least-from test many (suc start) ]
+
+-- the place that was found, or `other`
+abbrev pub place-or : ℕ → Found → ℕ
+place-or other (at i) = i
+place-or other nowhere = other
+
+-- the first of 1, .., n at which f is least; 1 where n is 0
+unfoldable pub first-least : (ℕ → ℤ) → ℕ → ℕ
+first-least f zero = 1
+first-least f (suc n) = cond (ltZ (f (suc n)) (f (first-least f n))) (suc n) (first-least f n)

@@ -1,0 +1,5 @@
+pub mod Task
+pub mod Demand
+pub mod Run
+pub mod Verdict
+pub mod Answer

@@ -1,0 +1,55 @@
+-- The rules 2 to 6 as the reader tests them, record by record: document 01, "When the desk says no".
+-- A rule's name says how it is broken. A new rule is a line more in `fault-of`.
+-- Assumes nothing.
+use Prim.Native.Nat.{ℕ, _+_}
+use mathlib.Core.Bool.{Bool, not, cond, _&&_, _||_}
+use lib.Dec.{ltb, leb, eqb}
+use Rattle.table.specs.declared.record.Record.{Record}
+use Rattle.table.specs.declared.rules.SoFar.{SoFar}
+
+-- before the first record there is no task
+abbrev pub none-yet : SoFar
+none-yet = record { tasks = 0; frames = 0; kind = 0; p = 0 }
+
+-- "the first is task 0 and each next task is one more": the record begins the next task
+abbrev pub begins : SoFar → Record → Bool
+begins b x = eqb (x .task) (b .tasks)
+
+-- or it is one more frame of the task before it
+abbrev pub goes-on : SoFar → Record → Bool
+goes-on b x = eqb (x .task + 1) (b .tasks)
+
+-- 2: "task number above 15, or not the run described above"
+abbrev pub off-run : SoFar → Record → Bool
+off-run b x = ltb 15 (x .task) || not (begins b x || goes-on b x)
+
+-- 3: "kind not 1 to 3, differs inside a task, or second frame of kind 1"
+abbrev pub bad-kind : SoFar → Record → Bool
+bad-kind b x =
+    (ltb (x .kind) 1 || ltb 3 (x .kind)) || (goes-on b x && (not (eqb (x .kind) (b .kind)) || eqb (x .kind) 1))
+
+-- 4: "seventeenth frame of a task"
+abbrev pub too-many : SoFar → Record → Bool
+too-many b x = goes-on b x && leb 16 (b .frames)
+
+-- 5: "E, D or P is zero"
+abbrev pub has-zero : Record → Bool
+has-zero x = (eqb (x .e) 0 || eqb (x .d) 0) || eqb (x .p) 0
+
+-- 6: "kind 2 with D not P, or P unlike the task's first"
+abbrev pub uneven : SoFar → Record → Bool
+uneven b x = eqb (x .kind) 2 && (not (eqb (x .d) (x .p)) || (goes-on b x && not (eqb (x .p) (b .p))))
+
+-- "in each record 2, 3, 4, 5, 6": the first that is broken, or 0
+abbrev pub first-broken : Bool → Bool → Bool → Bool → Bool → ℕ
+first-broken r2 r3 r4 r5 r6 = cond r2 2 (cond r3 3 (cond r4 4 (cond r5 5 (cond r6 6 0))))
+
+abbrev pub fault-of : SoFar → Record → ℕ
+fault-of b x = first-broken (off-run b x) (bad-kind b x) (too-many b x) (has-zero x) (uneven b x)
+
+-- what is known after a good record
+abbrev pub after-of : SoFar → Record → SoFar
+after-of b x =
+    cond (begins b x)
+    (record { tasks = x .task + 1; frames = 1; kind = x .kind; p = x .p })
+    (record { tasks = b .tasks; frames = b .frames + 1; kind = b .kind; p = b .p })

@@ -1,0 +1,5 @@
+// The bytes of a table: its records, the rules 1 to 6, and where each task stands.
+pub mod plan;
+pub mod reader;
+pub mod record;
+pub mod rules;

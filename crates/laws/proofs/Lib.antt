@@ -1,0 +1,3 @@
+pub mod Cases
+pub mod Fill
+pub mod SumLaws

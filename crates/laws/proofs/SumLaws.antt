@@ -86,6 +86,9 @@ sum-enough n (suc m) f h =
     elim (lt-or-le m n)
     [ inl less ↦ sum-longer (suc m) n f less | inr more ↦ omega (arith, sum-enough n m f h, h m more) ]
 
+pub sum-past : (n m : ℕ) (f : ℕ → ℕ) → n ≤ m → ((k : ℕ) → n ≤ k → f k ≡ 0) → sum m f ≡ sum n f
+sum-past n m f h none = omega (arith, sum-longer n m f h, sum-enough n m f none)
+
 -- ---- the greatest
 
 module _ (f : ℕ → ℕ) where

@@ -1,0 +1,3 @@
+pub mod CyclicLaws
+pub mod DemandLaws
+pub mod RunLaws

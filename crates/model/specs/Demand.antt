@@ -15,11 +15,14 @@ unfoldable pub offset : Task → ℕ → ℕ → ℕ
 offset task s zero = 0
 offset task s (suc n) = offset task s n + task .P (frame task s n)
 
+-- E of the n-th frame from frame s, where its offset plus reach is at most t
+abbrev pub part : Task → (ℕ → ℕ) → ℕ → ℕ → ℕ → ℕ
+part task reach t s n = only (leb (offset task s n + reach (frame task s n)) t) (task .E (frame task s n))
+
 -- The cyclic sum from frame s: E of every frame whose offset plus reach is at most t.
--- The frames of turns 0 to t are all that can count: each P is at least 1, so the frame of turn n comes at n or later.
+-- Turns 0 to t are all that can count: each P is at least 1, so the frame of turn n comes at n or later.
 unfoldable pub counted : Task → (ℕ → ℕ) → ℕ → ℕ → ℕ
-counted task reach t s =
-    sum (suc t) (λ n. only (leb (offset task s n + reach (frame task s n)) t) (task .E (frame task s n)))
+counted task reach t s = sum (suc t) (part task reach t s)
 
 -- "The greatest such sum over all s"
 abbrev pub most : Task → (ℕ → ℕ) → ℕ → ℕ

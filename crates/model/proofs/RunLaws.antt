@@ -1,0 +1,90 @@
+-- What any run of a task's requests asks of an interval is at most the greatest cyclic sum at its length.
+-- Assumes nothing.
+use mathlib.Core.Bool.{Bool, true, false, _&&_}
+use mathlib.Core.Path.{_≡_, refl, sym, _∙_, ap, ap₂}
+use mathlib.Core.Logic.{inl, inr}
+use Prim.Native.Nat.{ℕ, zero, suc, _+_, _-_, _≤_, _<_}
+use native.Mathlib.Nat.{le-refl}
+use native.Mathlib.Omega.{arith}
+use lib.Dec.{leb}
+use borrow.Author.Tests.{lt-leb}
+use Rattle.laws.specs.Sums.{sum, only}
+use Rattle.laws.proofs.Cases.{lt-or-le}
+use Rattle.laws.proofs.SumLaws.{gate, sum-zero, sum-head, sum-cong, greatest-ge}
+use Rattle.model.specs.Task.{Task}
+use Rattle.model.specs.Demand.{frame, counted, most}
+use Rattle.model.specs.Run.{Run, asked}
+use Rattle.model.proofs.CyclicLaws.{Moves, frame-lt, frame-none, frame-on, counted-on}
+use Rattle.model.proofs.DemandLaws.{counted-mono}
+
+both-most : (x y : Bool) (e : ℕ) → only (x && y) e ≤ only y e
+both-most true y e = le-refl (only y e)
+both-most false y e = omega arith
+
+module _ {task : Task} {reach : ℕ → ℕ} (moves : Moves task reach) (a b : ℕ) where
+  -- what one request asks
+  one : ℕ → ℕ → ℕ
+  one at i = only (leb a at && leb (at + reach i) b) (task .E i)
+
+  one-most : (at i : ℕ) → one at i ≤ only (leb (reach i) (b - at)) (task .E i)
+  unfolding one
+  one-most at i =
+      elim (lt-or-le b (at + reach i)) [
+        | inl out ↦ omega (arith, both-most (leb a at) (leb (at + reach i) b) (task .E i), gate (at + reach i) b (task .E i) .shut out)
+        | inr fits ↦
+            omega (
+              arith,
+              both-most (leb a at) (leb (at + reach i) b) (task .E i),
+              gate (at + reach i) b (task .E i) .most,
+              gate (reach i) (b - at) (task .E i) .passes (omega arith),
+            )
+      ]
+
+  one-early : (at i : ℕ) → at < a → one at i ≡ 0
+  unfolding one
+  one-early at i early = rw (lt-leb a at early)
+
+  asked-none : (s : ℕ) (arrive : ℕ → ℕ) → asked task reach s 0 arrive a b ≡ 0
+  unfolding asked
+  asked-none s arrive = sum-zero _
+
+  asked-on : (s m : ℕ) (arrive : ℕ → ℕ) → s < task .count
+      → asked task reach s (suc m) arrive a b ≡ one (arrive 0) s + asked task reach (frame task s 1) m (λ n. arrive (suc n)) a b
+  unfolding asked one
+  asked-on s m arrive inside =
+      sum-head m (λ n. one (arrive n) (frame task s n))
+      ∙ ap₂ _+_ (ap (one (arrive 0)) (frame-none task s inside))
+      (sum-cong m (λ n. one (arrive (suc n)) (frame task s (suc n))) (λ n. one (arrive (suc n)) (frame task (frame task s 1) n))
+      (λ n h. ap (one (arrive (suc n))) (frame-on task s n)))
+
+  run-on : (s m : ℕ) (arrive : ℕ → ℕ) → Run task s (suc m) arrive → Run task (frame task s 1) m (λ n. arrive (suc n))
+  run-on s m arrive run n h = omega (arith, run (suc n) (omega arith), ap (task .P) (frame-on task s n))
+
+  -- from frame s, with the first request at x or later
+  late : (m s x : ℕ) (arrive : ℕ → ℕ) → s < task .count → Run task s m arrive → (0 < m → x ≤ arrive 0)
+      → asked task reach s m arrive a b ≤ counted task reach (b - x) s
+  late zero s x arrive inside run first = omega (arith, asked-none s arrive)
+  late (suc m) s x arrive inside run first =
+      omega (
+        arith,
+        asked-on s m arrive inside,
+        one-most (arrive 0) s,
+        late m (frame task s 1) (arrive 0 + task .P s) (λ n. arrive (suc n)) (frame-lt task (moves .some) s 1) (run-on s m arrive run)
+            (λ some. omega (arith, run 0 (omega arith), ap (task .P) (frame-none task s inside))),
+        ap (λ (u : ℕ). counted task reach u (frame task s 1)) (less (arrive 0) (task .P s)),
+        counted-on moves (b - arrive 0) s inside,
+        counted-mono task reach (b - arrive 0) (b - x) s (omega (arith, first (omega arith))),
+      )
+    where
+      less : (x p : ℕ) → b - (x + p) ≡ b - x - p
+      less x p = omega arith
+
+  pub asked-most : (m s : ℕ) (arrive : ℕ → ℕ) → s < task .count → Run task s m arrive → asked task reach s m arrive a b ≤ most task reach (b - a)
+  asked-most zero s arrive inside run = omega (arith, asked-none s arrive)
+  asked-most (suc m) s arrive inside run =
+      let rest = asked-most m (frame task s 1) (λ n. arrive (suc n)) (frame-lt task (moves .some) s 1) (run-on s m arrive run) in
+      elim (lt-or-le (arrive 0) a) [
+        | inl early ↦ omega (arith, asked-on s m arrive inside, one-early (arrive 0) s early)
+        | inr in-time ↦
+            omega (arith, late (suc m) s a arrive inside run (λ some. in-time), greatest-ge (counted task reach (b - a)) (task .count) s inside)
+      ]

@@ -1,3 +1,6 @@
 pub mod Cases
 pub mod Fill
+pub mod PeakLaws
+pub mod SearchLaws
+pub mod SignedLaws
 pub mod SumLaws

@@ -1,3 +1,6 @@
 pub mod CyclicLaws
 pub mod DemandLaws
 pub mod RunLaws
+pub mod ClosingLaws
+pub mod WalkLaws
+pub mod Walking

@@ -2,4 +2,5 @@ pub mod Task
 pub mod Demand
 pub mod Run
 pub mod Verdict
+pub mod Meaning
 pub mod Answer

@@ -1,0 +1,95 @@
+-- What a loop that walks t from 1 to the limit keeps, and how each of its ways ends in the verdict.
+-- Assumes nothing.
+use mathlib.Core.Bool.{cond}
+use mathlib.Core.Path.{_≡_, refl, sym, _∙_, ap, ap₂, subst}
+use Prim.Native.Nat.{ℕ, suc, _+_, _-_, _≤_, _<_, min}
+use native.Mathlib.Nat.{le-refl}
+use native.Mathlib.Numerals.{add-one}
+use native.Mathlib.Omega.{arith}
+use lib.Dec.{ltb}
+use lib.IntN.{ℤ, pos}
+use Rattle.laws.proofs.LeastLaws.{Low-so-far, low-none, low-turn}
+use Rattle.laws.proofs.SignedLaws.{sub-above}
+use Rattle.model.specs.Task.{Table, ProperTable}
+use Rattle.model.specs.Demand.{all-demands, all-work, margin}
+use Rattle.model.specs.Verdict.{fits, undecided, overloaded-at, fits-at, verdict}
+use Rattle.model.proofs.ClosingLaws.{overloads-yes, overloads-no, closes-yes, closes-no, Calm-below, calm-one, calm-more}
+use Rattle.model.proofs.WalkLaws.{walk, walk-over, walk-fits, walk-on, walk-is}
+
+-- before t is tried: what is left to try gives the whole, no overload so far, and the least margin so far
+pub record Walking (table : Table) (limit t low at : ℕ) : Type 0 where
+  pub begun : 1 ≤ t
+  pub within : t ≤ suc limit
+  pub rest : walk table (suc limit - t) t ≡ verdict limit table
+  pub calm : Calm-below table t
+  pub lowest : Low-so-far (margin table) (t - 1) low at
+
+module _ {table : Table} (good : ProperTable table) (limit : ℕ) where
+  pub walking-start : Walking table limit 1 1 1
+  walking-start =
+      record {
+        begun = le-refl 1;
+        within = omega arith;
+        rest = ap (λ (k : ℕ). walk table k 1) whole ∙ walk-is good limit;
+        calm = calm-one good;
+        lowest = low-none (margin table);
+      }
+    where
+      whole : suc limit - 1 ≡ limit
+      whole = omega arith
+
+  module _ {t low at : ℕ} (walking : Walking table limit t low at) where
+    left : t ≤ limit → suc limit - t ≡ suc (suc limit - suc t)
+    left more = omega arith
+
+    pub walking-end : limit < t → undecided ≡ verdict limit table
+    unfolding walk
+    walking-end past = ap (λ (k : ℕ). walk table k t) none ∙ walking .rest
+      where
+        none : 0 ≡ suc limit - t
+        none = omega arith
+
+    pub walking-over : t ≤ limit → t < all-demands table t → overloaded-at table t ≡ verdict limit table
+    walking-over more over =
+        sym (ap (λ (k : ℕ). walk table k t) (left more) ∙ walk-over table (suc limit - suc t) t (overloads-yes table t over))
+        ∙ walking .rest
+
+    -- the least margin with t tried
+    tried : {low′ at′ d : ℕ} → d ≡ all-demands table t → d ≤ t → low′ ≡ min low (t - d) → at′ ≡ cond (ltb (t - d) low) t at
+        → Low-so-far (margin table) t low′ at′
+    tried {d = d} asked calm low-is at-is =
+        rw (low-is, at-is) (subst (λ (u : ℕ). Low-so-far (margin table) u (min low (t - d)) (cond (ltb (t - d) low) u at)) this (low-turn (walking .lowest) spare (λ first. omega arith)))
+      where
+        this : suc (t - 1) ≡ t
+        this = omega (arith, walking .begun)
+
+        spare : margin table (suc (t - 1)) ≡ pos (t - d)
+        spare = rw (this, asked) (sub-above t (all-demands table t) (omega arith))
+
+    pub walking-fits : {low′ at′ d : ℕ} → d ≡ all-demands table t → d ≤ t → low′ ≡ min low (t - d) → at′ ≡ cond (ltb (t - d) low) t at
+        → t ≤ limit → all-work table t ≤ t → fits t (pos low′) at′ ≡ verdict limit table
+    unfolding fits-at
+    walking-fits {low′} {at′} asked calm low-is at-is more closed =
+        ap₂ (λ (m : ℤ) (u : ℕ). fits t m u) (sym (now .low-is (walking .begun)) ∙ ap (margin table) (now .at-is)) (now .at-is)
+        ∙ sym (ap (λ (k : ℕ). walk table k t) (left more) ∙ walk-fits table (suc limit - suc t) t (overloads-no table t (omega arith)) (closes-yes table t closed))
+        ∙ walking .rest
+      where
+        now : Low-so-far (margin table) t low′ at′
+        now = tried asked calm low-is at-is
+
+    pub walking-on : {low′ at′ d : ℕ} → d ≡ all-demands table t → d ≤ t → low′ ≡ min low (t - d) → at′ ≡ cond (ltb (t - d) low) t at
+        → t ≤ limit → t < all-work table t → Walking table limit (t + 1) low′ at′
+    walking-on {low′} {at′} asked calm low-is at-is more open-still =
+        rw add-one
+        (record {
+          begun = omega arith;
+          within = omega arith;
+          rest =
+              sym (ap (λ (k : ℕ). walk table k t) (left more) ∙ walk-on table (suc limit - suc t) t (overloads-no table t (omega arith)) (closes-no table t open-still))
+              ∙ walking .rest;
+          calm = calm-more good t (walking .calm) (omega arith);
+          lowest = rw back (tried asked calm low-is at-is);
+        })
+      where
+        back : suc t - 1 ≡ t
+        back = omega arith

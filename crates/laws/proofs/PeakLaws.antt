@@ -94,3 +94,11 @@ module _ {f : ℕ → ℕ} {n sum place : ℕ} (so-far : Peaked f n sum place) w
             passes = eq-eqb (f place) (greatest n f) (so-far .has some ∙ so-far .sum-is);
             first = λ j h k. ne-eqb (f j) (greatest n f) (λ e. omega (arith, so-far .lowest j k, so-far .sum-is));
           }
+
+-- every f has a peak below every n
+pub peak-of : (f : ℕ → ℕ) (n : ℕ) → (place : ℕ) × Peaked f n (greatest n f) place
+unfolding greatest
+peak-of f zero = (0, peaked-none f)
+peak-of f (suc n) =
+    let before = peak-of f n in
+    (cond (ltb (greatest n f) (f n)) n (before .0), rw add-one at (peaked-turn (before .1) refl refl refl))

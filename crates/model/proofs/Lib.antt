@@ -4,3 +4,5 @@ pub mod RunLaws
 pub mod ClosingLaws
 pub mod WalkLaws
 pub mod Walking
+pub mod StartLaws
+pub mod VerdictLaws

@@ -5,3 +5,5 @@ pub mod PeakLaws
 pub mod SearchLaws
 pub mod SignedLaws
 pub mod SumLaws
+pub mod TallyLaws
+pub mod Tests

@@ -15,7 +15,7 @@ use Rattle.laws.proofs.Cases.{lt-or-le}
 use Rattle.laws.proofs.Fill.{tabulate-length, tabulate-at}
 use Rattle.laws.proofs.PeakLaws.{Peaked, peaked-lowest, peak-of}
 use Rattle.model.specs.Task.{Task, Table, ProperTable}
-use Rattle.model.specs.Demand.{counted, demand}
+use Rattle.model.specs.Demand.{counted, lowest}
 use Rattle.model.specs.Verdict.{start, starts}
 use Rattle.model.specs.Meaning.{Starts-at}
 
@@ -23,16 +23,16 @@ use Rattle.model.specs.Meaning.{Starts-at}
 abbrev pub start-in : Table → ℕ → ℕ → ℕ
 start-in table t k = cond (ltb k (table .tasks)) (start (table .task k) t) 0
 
--- what a loop over the starts finds is the start
-pub peaked-start : (task : Task) (t : ℕ) {sum place : ℕ} → Peaked (counted task (task .D) t) (task .count) sum place → place ≡ start task t
-unfolding start
-peaked-start task t peaked = peaked-lowest peaked
+-- what a loop over the starts finds is the lowest
+pub lowest-is : (task : Task) (reach : ℕ → ℕ) (t : ℕ) {sum place : ℕ} → Peaked (counted task reach t) (task .count) sum place → place ≡ lowest task reach t
+unfolding lowest
+lowest-is task reach t peaked = peaked-lowest peaked
 
 module _ (task : Task) (t : ℕ) (some : 1 ≤ task .count) where
   pub start-right : Starts-at task t (start task t)
   start-right =
       let peak = peak-of (counted task (task .D) t) (task .count) in
-      subst (Starts-at task t) (peaked-start task t (peak .1))
+      subst (Starts-at task t) (lowest-is task (task .D) t (peak .1))
       (record { inside = peak .1 .below some; gives = peak .1 .has some; lowest = peak .1 .lowest })
 
   start-only : (a b : ℕ) → Starts-at task t a → Starts-at task t b → a ≡ b

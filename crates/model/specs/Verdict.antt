@@ -3,13 +3,13 @@
 use mathlib.Core.Bool.{Bool, cond}
 use mathlib.Core.List.{List}
 use Prim.Native.Nat.{ℕ}
-use lib.Dec.{leb, ltb, eqb}
+use lib.Dec.{leb, ltb}
 use lib.IntN.{ℤ, pos}
 use lib.Signed.{ltZ}
 use Rattle.laws.specs.Sums.{tabulate}
-use Rattle.laws.specs.Search.{Found, at, nowhere, least-from, place-or, first-least}
+use Rattle.laws.specs.Search.{Found, at, nowhere, least-from, first-least}
 use Rattle.model.specs.Task.{Task, Table}
-use Rattle.model.specs.Demand.{counted, demand, all-work, margin}
+use Rattle.model.specs.Demand.{lowest, all-work, margin}
 
 -- "t is 0 to 65,536", and so is every window
 unfoldable pub horizon : ℕ
@@ -31,8 +31,8 @@ unfoldable pub first-overload : ℕ → Table → Found
 first-overload limit table = least-from (overloads table) limit 1
 
 -- "the lowest frame number that gives that task's demand at t"
-unfoldable pub start : Task → ℕ → ℕ
-start task t = place-or 0 (least-from (λ s. eqb (counted task (task .D) t s) (demand task t)) (task .count) 0)
+abbrev pub start : Task → ℕ → ℕ
+start task t = lowest task (task .D) t
 
 -- "sixteen start frames, one per task .. (0 past the last task)"
 unfoldable pub starts : Table → ℕ → List ℕ

@@ -1,0 +1,58 @@
+-- Counting: how many of 0, .., n - 1 pass a test.
+-- Assumes nothing.
+use mathlib.Core.Bool.{Bool, true, false, true≢false}
+use mathlib.Core.Path.{_≡_, refl, sym, ap, _∙_}
+use mathlib.Core.Logic.{inl, inr}
+use Prim.Native.Nat.{ℕ, zero, suc, _+_, _≤_, _<_}
+use native.Mathlib.Omega.{arith}
+use Rattle.laws.specs.Sums.{sum, only, tally}
+use Rattle.laws.proofs.Cases.{lt-or-last}
+use Rattle.laws.proofs.SumLaws.{sum-suc, sum-zero}
+
+only-one : (t : Bool) → only t 1 ≤ 1
+only-one true = omega arith
+only-one false = omega arith
+
+module _ (test : ℕ → Bool) where
+  pub tally-most : (n : ℕ) → tally n test ≤ n
+  tally-most zero = omega (arith, sum-zero (λ i. only (test i) 1))
+  tally-most (suc n) = omega (arith, only-one (test n), tally-most n, sum-suc n (λ i. only (test i) 1))
+
+  pub tally-passed : (n : ℕ) → test n ≡ true → tally (suc n) test ≡ tally n test + 1
+  tally-passed n e = sum-suc n (λ i. only (test i) 1) ∙ rw e
+
+  pub tally-failed : (n : ℕ) → test n ≡ false → tally (suc n) test ≡ tally n test
+  tally-failed n e = sum-suc n (λ i. only (test i) 1) ∙ rw e (omega arith)
+
+  pub tally-all : (n : ℕ) → ((j : ℕ) → j < n → test j ≡ true) → tally n test ≡ n
+  tally-all zero all = sum-zero (λ i. only (test i) 1)
+  tally-all (suc n) all =
+      omega (arith, tally-passed n (all n (omega arith)), tally-all n (λ j below. all j (omega arith)))
+
+-- the count is the place up to which a test passes
+pub record Up-to (test : ℕ → Bool) (n place : ℕ) : Type 0 where
+  pub below : (j : ℕ) → j < n → test j ≡ true → j < place
+  pub passes : (j : ℕ) → j < n → j < place → test j ≡ true
+
+-- a test that passes at i wherever it passes later on
+pub tally-place : (test : ℕ → Bool) (n : ℕ) → ((i j : ℕ) → i ≤ j → j < n → test j ≡ true → test i ≡ true) →
+    Up-to test n (tally n test)
+tally-place test zero falls = record { below = λ j h. absurd (omega arith); passes = λ j h. absurd (omega arith) }
+tally-place test (suc n) falls =
+    which (test n) refl (tally-place test n (λ i j order within. falls i j order (omega arith)))
+  where
+    which : (t : Bool) → test n ≡ t → Up-to test n (tally n test) → Up-to test (suc n) (tally (suc n) test)
+    which true e rest =
+        record {
+          below = λ j h passes. omega (arith, tally-passed test n e, tally-all test n (λ i less. falls i n (omega arith) (omega arith) e));
+          passes = λ j h less. falls j n (omega arith) (omega arith) e;
+        }
+    which false e rest =
+        record {
+          below = λ j h passes.
+              elim (lt-or-last j n h) [
+                | inl less ↦ omega (arith, tally-failed test n e, rest .below j less passes)
+                | inr last ↦ absurd (true≢false (sym passes ∙ ap test last ∙ e))
+              ];
+          passes = λ j h less. rest .passes j (omega (arith, tally-failed test n e, tally-most test n)) (omega (arith, tally-failed test n e));
+        }

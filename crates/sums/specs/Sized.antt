@@ -1,0 +1,67 @@
+-- What the sums are proved for, what they give, and how large it is.
+-- Assumes nothing.
+use mathlib.Core.Bool.{Bool, cond}
+use mathlib.Core.Path.{_≡_}
+use mathlib.Core.List.{List}
+use Prim.Native.Nat.{ℕ, _+_, _*_, _≤_, _<_, max}
+use lib.Dec.{ltb}
+use lib.ListN.{length, getD}
+use Rattle.laws.specs.Sums.{sum}
+use Rattle.model.specs.Task.{Task, Table, Proper}
+use Rattle.model.specs.Demand.{counted, most, lowest}
+use Rattle.table.specs.Bytes.{size, records}
+use Rattle.table.specs.TableOf.{table-of, task-of, plan-of}
+use Rattle.table.specs.WellFormed.{WellFormed}
+use Rattle.table.specs.declared.plan.Plan.{Plan}
+use Rattle.sums.specs.declared.peak.Peak.{Peak}
+
+-- every t and window that the desk will answer is at most this, whatever its horizon
+abbrev pub ceiling : ℕ
+ceiling = 1048576
+
+-- the greatest E
+abbrev pub longest : ℕ
+longest = 65535
+
+-- by which condition a frame counts: `due`, its offset plus D is at most t; else its offset is below t
+abbrev pub reach-by : Bool → Task → ℕ → ℕ
+reach-by due task i = cond due (task .D i) 1
+
+-- the demands of all tasks, or their work
+unfoldable pub total-by : Bool → Table → ℕ → ℕ
+total-by due table t = sum (table .tasks) (λ k. most (table .task k) (reach-by due (table .task k)) t)
+
+-- ---- what is required
+
+-- the task of `frames` records from record `first` on, and a time to count to
+pub record Stands (s : List ℕ) (first frames t : ℕ) : Type 0 where
+  pub inside : (first + frames) * size ≤ length s
+  pub proper : Proper (task-of s first frames)
+  pub within : t ≤ ceiling
+
+-- the bytes are a table, and this is its plan
+pub record Planned (s : List ℕ) (plan : Plan) : Type 0 where
+  pub bytes : (i : ℕ) → getD s i 0 < 256
+  pub good : WellFormed s
+  pub plan-is : plan ≡ plan-of s (records s) (table-of s .tasks)
+
+-- ---- what is ensured
+
+pub record Counted (task : Task) (due : Bool) (t start r : ℕ) : Type 0 where
+  pub is : r ≡ counted task (reach-by due task) t start
+  pub at-most : r ≤ longest * t
+
+pub record Raised (peak : Peak) (sum start : ℕ) (r : Peak) : Type 0 where
+  pub sum-is : r .sum ≡ max (peak .sum) sum
+  pub start-is : r .start ≡ cond (ltb (peak .sum) sum) start (peak .start)
+
+-- the greatest over all starts, and the lowest start that gives it
+pub record Greatest (task : Task) (due : Bool) (t : ℕ) (r : Peak) : Type 0 where
+  pub sum-is : r .sum ≡ most task (reach-by due task) t
+  pub start-is : r .start ≡ lowest task (reach-by due task) t
+  pub inside : r .start < task .count
+  pub at-most : r .sum ≤ longest * t
+
+pub record Total (table : Table) (due : Bool) (t r : ℕ) : Type 0 where
+  pub is : r ≡ total-by due table t
+  pub at-most : r ≤ 16 * (longest * t)

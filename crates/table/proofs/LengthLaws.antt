@@ -1,0 +1,26 @@
+-- Rule 1: the length test is true exactly where the length is wrong; and what a right length gives.
+-- Assumes nothing.
+use Prim.Native.Nat.{ℕ, _*_, _/_, _%_, _≤_}
+use mathlib.Core.Path.{_≡_}
+use native.Mathlib.Omega.{arith}
+use Rattle.laws.proofs.Tests.{Catches, catches-as, catches-eq, catches-lt, catches-ne, catches-or}
+use Rattle.table.specs.Bytes.{size}
+use Rattle.table.specs.Reader.{most-records, bad-length}
+use Rattle.table.specs.WellFormed.{Length-right}
+
+pub catches-length : (n : ℕ) → Catches (bad-length n) (Length-right n)
+catches-length n = catches-as there back
+    (catches-or (catches-or (catches-eq n 0) (catches-lt (most-records * size) n)) (catches-ne (n % size) 0))
+  where
+    there : ((n ≡ 0 → ⊥) × (n ≤ most-records * size)) × (n % size ≡ 0) → Length-right n
+    there right = record { some = omega (arith, right .0 .0); few = right .0 .1; whole = right .1 }
+
+    back : Length-right n → ((n ≡ 0 → ⊥) × (n ≤ most-records * size)) × (n % size ≡ 0)
+    back right = ((λ none. omega (arith, right .some), right .few), right .whole)
+
+module _ {n : ℕ} (right : Length-right n) where
+  pub some-records : 1 ≤ n / size
+  some-records = omega (arith, right .some, right .whole)
+
+  pub few-records : n / size ≤ most-records
+  few-records = omega (arith, right .few)

@@ -1,0 +1,9 @@
+pub mod LengthLaws
+pub mod Turns
+pub mod Counting
+pub mod KnownLaws
+pub mod KnownNext
+pub mod FaultLaws
+pub mod RuleLaws
+pub mod ReadLaws
+pub mod Exact

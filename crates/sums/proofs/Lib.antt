@@ -1,2 +1,4 @@
 pub mod CountLaws
 pub mod MostLaws
+pub mod ReadyLaws
+pub mod TotalLaws

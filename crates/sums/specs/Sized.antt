@@ -5,7 +5,7 @@ use mathlib.Core.Path.{_≡_}
 use mathlib.Core.List.{List}
 use Prim.Native.Nat.{ℕ, _+_, _*_, _≤_, _<_, max}
 use lib.Dec.{ltb}
-use lib.ListN.{length, getD}
+use lib.ListN.{length}
 use Rattle.laws.specs.Sums.{sum}
 use Rattle.model.specs.Task.{Task, Table, Proper}
 use Rattle.model.specs.Demand.{counted, most, lowest}
@@ -40,8 +40,7 @@ pub record Stands (s : List ℕ) (first frames t : ℕ) : Type 0 where
   pub within : t ≤ ceiling
 
 -- the bytes are a table, and this is its plan
-pub record Planned (s : List ℕ) (plan : Plan) : Type 0 where
-  pub bytes : (i : ℕ) → getD s i 0 < 256
+pub record Ready (s : List ℕ) (plan : Plan) : Type 0 where
   pub good : WellFormed s
   pub plan-is : plan ≡ plan-of s (records s) (table-of s .tasks)
 

@@ -4,11 +4,11 @@ use table::plan::Plan;
 ghost use mathlib.Core.Path.{_≡_};
 ghost use Prim.Native.Nat.{_<_, _≤_};
 ghost use Rattle.table.specs.TableOf.{table-of};
-ghost use Rattle.sums.specs.Sized.{Planned, Greatest, Total, ceiling};
+ghost use Rattle.sums.specs.Sized.{Ready, Greatest, Total, ceiling};
 
 // The peak of task k.
 pub fn peak_of(s: &[u8], plan: Plan, k: usize, t: u64, due: bool) -> Peak
-    requires { ⌜ Planned (now s) plan × (k < plan .tasks) × (t ≤ ceiling) ⌝ }
+    requires { ⌜ Ready (now s) plan × (k < plan .tasks) × (t ≤ ceiling) ⌝ }
     ensures { λ r. ⌜ Greatest (table-of (now (s .entry)) .task k) due t r ⌝ }
 {
     let first = plan.first;
@@ -19,7 +19,7 @@ pub fn peak_of(s: &[u8], plan: Plan, k: usize, t: u64, due: bool) -> Peak
 
 // The demands of all tasks at t, or their work in t.
 pub fn total(s: &[u8], plan: Plan, t: u64, due: bool) -> u64
-    requires { ⌜ Planned (now s) plan × (t ≤ ceiling) ⌝ }
+    requires { ⌜ Ready (now s) plan × (t ≤ ceiling) ⌝ }
     ensures { λ r. ⌜ Total (table-of (now (s .entry))) due t r ⌝ }
 {
     let tasks = plan.tasks;

@@ -1,7 +1,7 @@
 -- The reader is exact, both ways: it gives a table exactly where the bytes are well formed, and a refusal exactly where
 -- document 01 names that refusal with that index.
 -- Assumes nothing.
-use Prim.Native.Nat.{ℕ, _+_, _≤_, _<_}
+use Prim.Native.Nat.{ℕ, _+_, _*_, _≤_, _<_}
 use mathlib.Core.Path.{_≡_, refl, _∙_}
 use mathlib.Core.Logic.{inl, inr}
 use mathlib.Core.List.{List}
@@ -13,12 +13,12 @@ use Rattle.laws.proofs.Tests.{kept, broken}
 use Rattle.table.specs.declared.reader.Shape.{Shape}
 use Rattle.table.specs.declared.reader.Refusal.{Refusal}
 use Rattle.table.specs.declared.reader.Reading.the-variants.{Table, Refused}
-use Rattle.table.specs.Bytes.{records}
-use Rattle.table.specs.Reader.{bad-length, reading-of}
+use Rattle.table.specs.Bytes.{size, records}
+use Rattle.table.specs.Reader.{most-records, bad-length, reading-of}
 use Rattle.table.specs.WellFormed.{Length-right, WellFormed}
 use Rattle.table.specs.Refusals.{Bad-record, Refused-with}
 use Rattle.table.specs.TableOf.{table-of}
-use Rattle.table.proofs.LengthLaws.{catches-length, some-records}
+use Rattle.table.proofs.LengthLaws.{catches-length, some-records, few-records}
 use Rattle.table.proofs.Turns.{read-short, read-long}
 use Rattle.table.proofs.KnownLaws.{known-start}
 use Rattle.table.proofs.ReadLaws.{good-from, refused-from, Said, whole, stopped, said-from, said-good}
@@ -63,3 +63,23 @@ refused-read s number index (inl bad) =
 refused-read s number index (inr bad) =
     read-long s (kept (catches-length (length s)) (bad .long))
     ∙ refused-from (records s) (known-start s) (omega arith) (omega (arith, bad .within)) (bad .before) (bad .breaks)
+
+-- what a shape that was read says
+pub record Shaped (s : List ℕ) (t : Shape) : Type 0 where
+  pub well : WellFormed s
+  pub records-are : t .records ≡ records s
+  pub tasks-are : t .tasks ≡ table-of s .tasks
+  pub inside : t .records * size ≤ length s
+  pub few : t .records ≤ most-records
+
+pub shaped : (s : List ℕ) (t : Shape) → reading-of s ≡ Table t → Shaped s t
+shaped s t read =
+    let well = read-good s t read in
+    let records-are : t .records ≡ records s = cc (good-read s well) in
+    record {
+      well = well;
+      records-are = records-are;
+      tasks-are = cc (good-read s well);
+      inside = omega arith;
+      few = omega (arith, few-records (well .long));
+    }

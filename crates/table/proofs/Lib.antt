@@ -7,3 +7,7 @@ pub mod FaultLaws
 pub mod RuleLaws
 pub mod ReadLaws
 pub mod Exact
+pub mod Rising
+pub mod Runs
+pub mod Stands
+pub mod ProperLaws

@@ -1,0 +1,44 @@
+-- A well-formed table is proper: its tasks and frames are some and few, and E, D and P lie within document 01's bounds.
+-- Assumes nothing.
+use Prim.Native.Nat.{ℕ, _+_, _-_, _*_, _≤_, _<_}
+use mathlib.Core.Path.{_≡_, refl}
+use mathlib.Core.List.{List}
+use lib.ListN.{getD}
+use native.Mathlib.Omega.{arith}
+use Rattle.model.specs.Task.{Task, Proper, ProperTable}
+use Rattle.table.specs.Bytes.{size, records, record-of}
+use Rattle.table.specs.WellFormed.{Good, WellFormed}
+use Rattle.table.specs.TableOf.{records-before, records-of, task-of, table-of}
+use Rattle.table.proofs.Rising.{few-tasks}
+use Rattle.table.proofs.Runs.{run-within, run-some, run-few}
+
+module _ (s : List ℕ) (bytes : (i : ℕ) → getD s i 0 < 256) where
+  -- "each 1 to 65,535": two bytes hold no more
+  e-most : (i : ℕ) → record-of s i .e ≤ 65535
+  unfolding record-of
+  e-most i = omega (arith, bytes (i * size + 2), bytes (i * size + 2 + 1))
+
+  -- a task whose frames are good records
+  task-proper : (first count : ℕ) → 1 ≤ count → count ≤ 16 → ((i : ℕ) → i < count → Good s (first + i)) →
+      Proper (task-of s first count)
+  unfolding task-of
+  task-proper first count some few good =
+      record {
+        some = some;
+        few = few;
+        runs = λ i within. good i within .not-zero .e;
+        short = λ i within. e-most (first + i);
+        waits = λ i within. good i within .not-zero .d;
+        moves = λ i within. good i within .not-zero .p;
+      }
+
+pub proper-table : (s : List ℕ) → ((i : ℕ) → getD s i 0 < 256) → WellFormed s → ProperTable (table-of s)
+proper-table s bytes well = record { some = omega arith; few = few-tasks well; proper = proper }
+  where
+    first : ℕ → ℕ
+    first = records-before (records s) s
+
+    proper : (k : ℕ) → k < table-of s .tasks → Proper (table-of s .task k)
+    proper k below =
+        task-proper s bytes (first k) (records-of (records s) s k) (run-some well k below) (run-few well k)
+        (λ i within. well .good (first k + i) (omega (arith, run-within (records s) s k)))

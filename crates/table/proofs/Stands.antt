@@ -1,0 +1,88 @@
+-- Where each task stands, by the plan of a table that was read.
+-- Assumes nothing.
+use Prim.Native.Nat.{ℕ, _+_, _-_, _*_, _≤_, _<_}
+use mathlib.Core.Path.{_≡_, refl, sym, ap, _∙_}
+use mathlib.Core.List.{List}
+use lib.ListN.{length, getD}
+use native.Mathlib.Omega.{arith}
+use Rattle.laws.proofs.Fill.{tabulate-length, tabulate-at}
+use Rattle.table.specs.declared.plan.Plan.{Plan}
+use Rattle.table.specs.declared.reader.Shape.{Shape}
+use Rattle.table.specs.declared.reader.Reading.the-variants.{Table}
+use Rattle.table.specs.Bytes.{size, records, record-of}
+use Rattle.table.specs.Reader.{reading-of}
+use Rattle.table.specs.WellFormed.{WellFormed}
+use Rattle.table.specs.TableOf.{records-before, records-of, task-of, table-of, plan-of}
+use Rattle.table.proofs.Rising.{few-tasks}
+use Rattle.table.proofs.Runs.{before-next, run-within, run-some, run-few}
+use Rattle.table.proofs.Exact.{shaped}
+
+-- task k stands from record `first` up to record `next`
+pub record Planned (s : List ℕ) (k first next : ℕ) : Type 0 where
+  pub first-is : first ≡ records-before (records s) s k
+  pub frames-are : next - first ≡ records-of (records s) s k
+  pub ordered : first ≤ next
+  pub inside : next * size ≤ length s
+  pub some : 1 ≤ next - first
+  pub few : next - first ≤ 16
+  pub task-is : table-of s .task k ≡ task-of s first (next - first)
+
+planned : {s : List ℕ} → WellFormed s → (k : ℕ) → k < table-of s .tasks →
+    Planned s k (records-before (records s) s k) (records-before (records s) s (k + 1))
+planned {s} well k below =
+    let ended = before-next (records s) s k in
+    let within = run-within (records s) s k in
+    let some = run-some well k below in
+    let few = run-few well k in
+    let first = records-before (records s) s k in
+    let frames-are : records-before (records s) s (k + 1) - first ≡ records-of (records s) s k = omega arith in
+    record {
+      first-is = refl;
+      frames-are = frames-are;
+      ordered = omega arith;
+      inside = omega arith;
+      some = omega arith;
+      few = omega arith;
+      task-is = ap (task-of s first) (sym frames-are);
+    }
+
+-- a plan of these bytes: its place k is where task k begins, and place k + 1 where it ends
+pub record Plans (s : List ℕ) (p : Plan) : Type 0 where
+  pub tasks-are : p .tasks ≡ table-of s .tasks
+  pub long : length (p .first) ≡ 17
+  pub stands : (k : ℕ) → k < table-of s .tasks → Planned s k (getD (p .first) k 0) (getD (p .first) (k + 1) 0)
+
+plan-at : (s : List ℕ) (n tasks k : ℕ) → k < 17 → getD (plan-of s n tasks .first) k 0 ≡ records-before n s k
+unfolding plan-of
+plan-at s n tasks k within = tabulate-at 17 (records-before n s) k within
+
+plan-long : (s : List ℕ) (n tasks : ℕ) → length (plan-of s n tasks .first) ≡ 17
+unfolding plan-of
+plan-long s n tasks = tabulate-length 17 (records-before n s)
+
+plan-tasks : (s : List ℕ) (n tasks : ℕ) → plan-of s n tasks .tasks ≡ tasks
+unfolding plan-of
+plan-tasks s n tasks = refl
+
+pub plans : {s : List ℕ} {p : Plan} → WellFormed s → p ≡ plan-of s (records s) (table-of s .tasks) → Plans s p
+plans {s} well is =
+    rw is
+    (record {
+      tasks-are = plan-tasks s (records s) (table-of s .tasks);
+      long = plan-long s (records s) (table-of s .tasks);
+      stands = stands;
+    })
+  where
+    begins : (k : ℕ) → k ≤ 16 → getD (plan-of s (records s) (table-of s .tasks) .first) k 0 ≡ records-before (records s) s k
+    begins k within = plan-at s (records s) (table-of s .tasks) k (omega arith)
+
+    stands : let p = plan-of s (records s) (table-of s .tasks) in (k : ℕ) → k < table-of s .tasks →
+        Planned s k (getD (p .first) k 0) (getD (p .first) (k + 1) 0)
+    stands k below =
+        let few = few-tasks well in rw (begins k (omega arith), begins (k + 1) (omega arith)) (planned well k below)
+
+-- in the words of a caller that has read the table
+pub plans-read : (s : List ℕ) (t : Shape) {p : Plan} → reading-of s ≡ Table t → p ≡ plan-of s (t .records) (t .tasks) →
+    Plans s p
+plans-read s t read is =
+    let shape = shaped s t read in plans (shape .well) (rw (shape .records-are, shape .tasks-are) at is)

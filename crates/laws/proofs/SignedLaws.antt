@@ -4,6 +4,7 @@ use mathlib.Core.Bool.{Bool, true, false}
 use mathlib.Core.Path.{_≡_, refl, ap, ap₂, sym, _∙_}
 use mathlib.Core.Logic.{inl, inr}
 use Prim.Native.Nat.{ℕ, suc, zero, _+_, _-_, _^_, _≤_, _<_}
+use native.Mathlib.Nat.{sub-zero}
 use native.Mathlib.Omega.{arith}
 use lib.Dec.{ltb}
 use lib.IntN.{ℤ, pos, negsuc, subℕ, _-ℤ_}
@@ -51,3 +52,6 @@ module _ (a b : ℕ) (ha : a < 2 ^ 63) (hb : b < 2 ^ 63) where
 -- a signed value, stored and read again
 pub signed-kept : (z : ℤ) → mag z < 2 ^ 63 → toZ w64 (ofZ w64 z) ≡ z
 signed-kept z h = toZ-ofZ {w = w64} {z = z} (record { sfits = h })
+
+pub sub-zero-is : (a : ℕ) → subℕ a 0 ≡ pos a
+sub-zero-is a = sub-above a 0 (omega arith) ∙ ap pos (sub-zero a)

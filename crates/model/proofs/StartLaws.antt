@@ -16,12 +16,8 @@ use Rattle.laws.proofs.Fill.{tabulate-length, tabulate-at}
 use Rattle.laws.proofs.PeakLaws.{Peaked, peaked-lowest, peak-of}
 use Rattle.model.specs.Task.{Task, Table, ProperTable}
 use Rattle.model.specs.Demand.{counted, lowest}
-use Rattle.model.specs.Verdict.{start, starts}
+use Rattle.model.specs.Verdict.{start, start-in, starts}
 use Rattle.model.specs.Meaning.{Starts-at}
-
--- the start of task k of a table, 0 past the last task
-abbrev pub start-in : Table → ℕ → ℕ → ℕ
-start-in table t k = cond (ltb k (table .tasks)) (start (table .task k) t) 0
 
 -- what a loop over the starts finds is the lowest
 pub lowest-is : (task : Task) (reach : ℕ → ℕ) (t : ℕ) {sum place : ℕ} → Peaked (counted task reach t) (task .count) sum place → place ≡ lowest task reach t

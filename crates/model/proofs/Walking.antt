@@ -24,6 +24,14 @@ pub record Walking (table : Table) (limit t low at : ℕ) : Type 0 where
   pub calm : Calm-below table t
   pub lowest : Low-so-far (margin table) (t - 1) low at
 
+-- t is tried and no overload: d is asked at it, and the least margin is taken anew
+pub record Tried (table : Table) (limit t low at d low′ at′ : ℕ) : Type 0 where
+  pub more : t ≤ limit
+  pub asked : d ≡ all-demands table t
+  pub calm : d ≤ t
+  pub low-is : low′ ≡ min low (t - d)
+  pub at-is : at′ ≡ cond (ltb (t - d) low) t at
+
 module _ {table : Table} (good : ProperTable table) (limit : ℕ) where
   pub walking-start : Walking table limit 1 1 1
   walking-start =
@@ -54,42 +62,45 @@ module _ {table : Table} (good : ProperTable table) (limit : ℕ) where
         sym (ap (λ (k : ℕ). walk table k t) (left more) ∙ walk-over table (suc limit - suc t) t (overloads-yes table t over))
         ∙ walking .rest
 
-    -- the least margin with t tried
-    tried : {low′ at′ d : ℕ} → d ≡ all-demands table t → d ≤ t → low′ ≡ min low (t - d) → at′ ≡ cond (ltb (t - d) low) t at
-        → Low-so-far (margin table) t low′ at′
-    tried {d = d} asked calm low-is at-is =
-        rw (low-is, at-is) (subst (λ (u : ℕ). Low-so-far (margin table) u (min low (t - d)) (cond (ltb (t - d) low) u at)) this (low-turn (walking .lowest) spare (λ first. omega arith)))
-      where
-        this : suc (t - 1) ≡ t
-        this = omega (arith, walking .begun)
+    module _ {d low′ at′ : ℕ} (tried : Tried table limit t low at d low′ at′) where
+      calm-here : all-demands table t ≤ t
+      calm-here = omega (arith, tried .asked, tried .calm)
 
-        spare : margin table (suc (t - 1)) ≡ pos (t - d)
-        spare = rw (this, asked) (sub-above t (all-demands table t) (omega arith))
+      lowest-now : Low-so-far (margin table) t low′ at′
+      lowest-now =
+          rw (tried .low-is, tried .at-is)
+          (subst (λ (u : ℕ). Low-so-far (margin table) u (min low (t - d)) (cond (ltb (t - d) low) u at)) this
+          (low-turn (walking .lowest) spare (λ first. omega arith)))
+        where
+          this : suc (t - 1) ≡ t
+          this = omega (arith, walking .begun)
 
-    pub walking-fits : {low′ at′ d : ℕ} → d ≡ all-demands table t → d ≤ t → low′ ≡ min low (t - d) → at′ ≡ cond (ltb (t - d) low) t at
-        → t ≤ limit → all-work table t ≤ t → fits t (pos low′) at′ ≡ verdict limit table
-    unfolding fits-at
-    walking-fits {low′} {at′} asked calm low-is at-is more closed =
-        ap₂ (λ (m : ℤ) (u : ℕ). fits t m u) (sym (now .low-is (walking .begun)) ∙ ap (margin table) (now .at-is)) (now .at-is)
-        ∙ sym (ap (λ (k : ℕ). walk table k t) (left more) ∙ walk-fits table (suc limit - suc t) t (overloads-no table t (omega arith)) (closes-yes table t closed))
-        ∙ walking .rest
-      where
-        now : Low-so-far (margin table) t low′ at′
-        now = tried asked calm low-is at-is
+          spare : margin table (suc (t - 1)) ≡ pos (t - d)
+          spare = rw (this, tried .asked) (sub-above t (all-demands table t) calm-here)
 
-    pub walking-on : {low′ at′ d : ℕ} → d ≡ all-demands table t → d ≤ t → low′ ≡ min low (t - d) → at′ ≡ cond (ltb (t - d) low) t at
-        → t ≤ limit → t < all-work table t → Walking table limit (t + 1) low′ at′
-    walking-on {low′} {at′} asked calm low-is at-is more open-still =
-        rw add-one
-        (record {
-          begun = omega arith;
-          within = omega arith;
-          rest =
-              sym (ap (λ (k : ℕ). walk table k t) (left more) ∙ walk-on table (suc limit - suc t) t (overloads-no table t (omega arith)) (closes-no table t open-still))
-              ∙ walking .rest;
-          calm = calm-more good t (walking .calm) (omega arith);
-          lowest = rw back (tried asked calm low-is at-is);
-        })
-      where
-        back : suc t - 1 ≡ t
-        back = omega arith
+      pub walking-fits : all-work table t ≤ t → fits t (pos low′) at′ ≡ verdict limit table
+      unfolding fits-at
+      walking-fits closed =
+          ap₂ (λ (m : ℤ) (u : ℕ). fits t m u) (sym (lowest-now .low-is (walking .begun)) ∙ ap (margin table) (lowest-now .at-is)) (lowest-now .at-is)
+          ∙ sym
+          (ap (λ (k : ℕ). walk table k t) (left (tried .more))
+          ∙ walk-fits table (suc limit - suc t) t (overloads-no table t calm-here) (closes-yes table t closed))
+          ∙ walking .rest
+
+      pub walking-on : t < all-work table t → Walking table limit (t + 1) low′ at′
+      walking-on open-still =
+          rw add-one
+          (record {
+            begun = omega arith;
+            within = omega (arith, tried .more);
+            rest =
+                sym
+                (ap (λ (k : ℕ). walk table k t) (left (tried .more))
+                ∙ walk-on table (suc limit - suc t) t (overloads-no table t calm-here) (closes-no table t open-still))
+                ∙ walking .rest;
+            calm = calm-more good t (walking .calm) calm-here;
+            lowest = rw back lowest-now;
+          })
+        where
+          back : suc t - 1 ≡ t
+          back = omega arith

@@ -34,9 +34,13 @@ first-overload limit table = least-from (overloads table) limit 1
 abbrev pub start : Task → ℕ → ℕ
 start task t = lowest task (task .D) t
 
--- "sixteen start frames, one per task .. (0 past the last task)"
+-- "one per task .. (0 past the last task)"
+abbrev pub start-in : Table → ℕ → ℕ → ℕ
+start-in table t k = cond (ltb k (table .tasks)) (start (table .task k) t) 0
+
+-- "sixteen start frames"
 unfoldable pub starts : Table → ℕ → List ℕ
-starts table t = tabulate 16 (λ k. cond (ltb k (table .tasks)) (start (table .task k) t) 0)
+starts table t = tabulate 16 (start-in table t)
 
 pub data Verdict : Type 0 where
   overloaded : (t : ℕ) (margin : ℤ) (starts : List ℕ) → Verdict

@@ -59,3 +59,7 @@ module _ {s : List ℕ} {plan : Plan} (ready : Ready s plan) where
         → Greatest (task-of s (getD (plan .first) k 0) (getD (plan .first) (k + 1) 0 - getD (plan .first) k 0)) due t r
         → Greatest (table-of s .task k) due t r
     ready-greatest {due} {t} {r} most = subst (λ (task : Task). Greatest task due t r) (sym (stands .task-is)) most
+
+    -- a start fits a byte
+    pub ready-start : {due : Bool} {t : ℕ} {r : Peak} → Greatest (table-of s .task k) due t r → r .start < 16
+    ready-start most = omega (arith, most .inside, ready-proper bytes .proper k here .few)

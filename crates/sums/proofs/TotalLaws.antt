@@ -13,13 +13,13 @@ use Rattle.sums.specs.declared.peak.Peak.{Peak}
 use Rattle.sums.specs.Sized.{longest, reach-by, total-by, Greatest, Total}
 
 -- the two conditions are the document's two sums
-pub total-demand : (table : Table) (t : ℕ) → total-by true table t ≡ all-demands table t
+pub demands-are : {table : Table} {t r : ℕ} → Total table true t r → r ≡ all-demands table t
 unfolding total-by all-demands
-total-demand table t = refl
+demands-are total = total .is
 
-pub total-work : (table : Table) (w : ℕ) → total-by false table w ≡ all-work table w
+pub work-is : {table : Table} {w r : ℕ} → Total table false w r → r ≡ all-work table w
 unfolding total-by all-work
-total-work table w = refl
+work-is total = total .is
 
 abbrev peaks : Table → Bool → ℕ → ℕ → ℕ
 peaks table due t k = most (table .task k) (reach-by due (table .task k)) t

@@ -5,7 +5,7 @@ use mathlib.Core.Path.{_≡_, refl, sym, ap, _∙_}
 use mathlib.Core.Logic.{inl, inr}
 use Prim.Native.Nat.{ℕ, zero, suc, _+_, _≤_, _<_}
 use native.Mathlib.Omega.{arith}
-use Rattle.laws.specs.Sums.{sum, only, tally}
+use Rattle.laws.specs.Sums.{only, tally}
 use Rattle.laws.proofs.Cases.{lt-or-last}
 use Rattle.laws.proofs.SumLaws.{sum-suc, sum-zero}
 
@@ -34,25 +34,32 @@ pub record Up-to (test : ℕ → Bool) (n place : ℕ) : Type 0 where
   pub below : (j : ℕ) → j < n → test j ≡ true → j < place
   pub passes : (j : ℕ) → j < n → j < place → test j ≡ true
 
--- a test that passes at i wherever it passes later on
+module _ (test : ℕ → Bool) (n : ℕ) where
+  place-passed : ((j : ℕ) → j ≤ n → test j ≡ true) → Up-to test (suc n) (tally (suc n) test)
+  place-passed all =
+      let whole = tally-all test (suc n) (λ j less. all j (omega arith)) in
+      record { below = λ j within passes. omega arith; passes = λ j within less. all j (omega arith) }
+
+  place-failed : test n ≡ false → Up-to test n (tally n test) → Up-to test (suc n) (tally (suc n) test)
+  place-failed last rest =
+      let same = tally-failed test n last in
+      record {
+        below = λ j within passes.
+            elim (lt-or-last j n within) [
+              | inl less ↦ omega (arith, rest .below j less passes)
+              | inr here ↦ absurd (true≢false (sym passes ∙ ap test here ∙ last))
+            ];
+        passes = λ j within less. rest .passes j (omega (arith, tally-most test n)) (omega arith);
+      }
+
+-- a test that passes wherever it passes later on
 pub tally-place : (test : ℕ → Bool) (n : ℕ) → ((i j : ℕ) → i ≤ j → j < n → test j ≡ true → test i ≡ true) →
     Up-to test n (tally n test)
-tally-place test zero falls = record { below = λ j h. absurd (omega arith); passes = λ j h. absurd (omega arith) }
+tally-place test zero falls =
+    record { below = λ j within. absurd (omega arith); passes = λ j within. absurd (omega arith) }
 tally-place test (suc n) falls =
     which (test n) refl (tally-place test n (λ i j order within. falls i j order (omega arith)))
   where
     which : (t : Bool) → test n ≡ t → Up-to test n (tally n test) → Up-to test (suc n) (tally (suc n) test)
-    which true e rest =
-        record {
-          below = λ j h passes. omega (arith, tally-passed test n e, tally-all test n (λ i less. falls i n (omega arith) (omega arith) e));
-          passes = λ j h less. falls j n (omega arith) (omega arith) e;
-        }
-    which false e rest =
-        record {
-          below = λ j h passes.
-              elim (lt-or-last j n h) [
-                | inl less ↦ omega (arith, tally-failed test n e, rest .below j less passes)
-                | inr last ↦ absurd (true≢false (sym passes ∙ ap test last ∙ e))
-              ];
-          passes = λ j h less. rest .passes j (omega (arith, tally-failed test n e, tally-most test n)) (omega (arith, tally-failed test n e));
-        }
+    which true last rest = place-passed test n (λ j order. falls j n order (omega arith) last)
+    which false last rest = place-failed test n last rest

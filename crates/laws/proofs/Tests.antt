@@ -1,12 +1,12 @@
--- A test that is true exactly where a rule is broken, built up as the test is: from comparisons by `||`, `&&` and `not`.
+-- A test that is true exactly where a rule is broken, built up as tests are: from comparisons by `||`, `&&` and `not`.
 -- Assumes nothing.
 use mathlib.Core.Bool.{Bool, true, false, not, _&&_, _||_, true≢false, false≢true}
-use mathlib.Core.Path.{_≡_, refl, sym, _∙_}
+use mathlib.Core.Path.{_≡_, refl}
 use mathlib.Core.Logic.{_⊎_, inl, inr}
 use Prim.Native.Nat.{ℕ, _≤_, _<_}
 use native.Mathlib.Omega.{arith}
 use lib.Dec.{ltb, leb, eqb}
-use borrow.Author.Tests.{ltb-true, ltb-false, leb-true, leb-false, eqb-true, eqb-false, not-true, not-false, eq-eqb}
+use borrow.Author.Tests.{ltb-true, ltb-false, leb-true, leb-false, eqb-true, eqb-false, not-true, not-false}
 
 pub record Catches (test : Bool) (rule : Type 0) : Type 0 where
   pub passed : test ≡ false → rule

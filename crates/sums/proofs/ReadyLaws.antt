@@ -13,7 +13,7 @@ use Rattle.table.specs.TableOf.{table-of, task-of}
 use Rattle.table.specs.declared.plan.Plan.{Plan}
 use Rattle.table.proofs.Rising.{few-tasks}
 use Rattle.table.proofs.Stands.{Planned, Plans, plans}
-use Rattle.table.proofs.ProperLaws.{proper-table}
+use Rattle.table.proofs.TaskLaws.{proper-table}
 use Rattle.sums.specs.declared.peak.Peak.{Peak}
 use Rattle.sums.specs.Sized.{ceiling, Stands, Ready, Greatest}
 

@@ -60,7 +60,8 @@ good-or-breaks {r2 = false} {r3 = false} {r4 = false} {r5 = true} tests =
 good-or-breaks {r2 = false} {r3 = false} {r4 = false} {r5 = false} {r6 = true} tests =
     let run = tests .by-2 .passed refl in
     let kind = tests .by-3 run .passed refl in
-    inr (breaks-6 run kind (tests .by-4 run .passed refl) (tests .by-5 .passed refl) (tests .by-6 run kind .caught refl))
+    let room = tests .by-4 run .passed refl in
+    inr (breaks-6 run kind room (tests .by-5 .passed refl) (tests .by-6 run kind .caught refl))
 good-or-breaks {r2 = false} {r3 = false} {r4 = false} {r5 = false} {r6 = false} tests =
     let run = tests .by-2 .passed refl in
     let kind = tests .by-3 run .passed refl in

@@ -52,7 +52,7 @@ module _ {s : List ℕ} {i : ℕ} {b : SoFar} (known : Known s i b) where
   just-before : (j : ℕ) → j + 1 ≡ i → Last-task s b j
   just-before j before = known .last j (omega arith) (omega (arith, known .some (omega arith)))
 
-  before-it : 1 ≤ i → Last-task s b (i - 1)
+  pub before-it : 1 ≤ i → Last-task s b (i - 1)
   before-it more = just-before (i - 1) (omega arith)
 
   -- record i begins the next task, or goes on with the last one
@@ -102,7 +102,8 @@ module _ {s : List ℕ} {i : ℕ} {b : SoFar} (known : Known s i b) where
     pub on-first : Same-task s (i - b .frames) i
     on-first =
         let earlier : i - b .frames < i = omega (arith, known .within, known .some on-some) in
-        record { earlier = earlier; same = omega (arith, known .last (i - b .frames) earlier (omega (arith, known .within)) .task) }
+        let last = known .last (i - b .frames) earlier (omega (arith, known .within)) in
+        record { earlier = earlier; same = omega (arith, last .task) }
 
     pub on-kind : Kind-right s i → record-of s i .kind ≡ b .kind
     on-kind right = right .one (i - 1) on-before ∙ before-it on-some .kind

@@ -13,14 +13,14 @@ catches-length n = catches-as there back
     (catches-or (catches-or (catches-eq n 0) (catches-lt (most-records * size) n)) (catches-ne (n % size) 0))
   where
     there : ((n ≡ 0 → ⊥) × (n ≤ most-records * size)) × (n % size ≡ 0) → Length-right n
-    there right = record { some = omega (arith, right .0 .0); few = right .0 .1; whole = right .1 }
+    there ((some, few), whole) = record { some = omega (arith, some); few = few; whole = whole }
 
     back : Length-right n → ((n ≡ 0 → ⊥) × (n ≤ most-records * size)) × (n % size ≡ 0)
     back right = ((λ none. omega (arith, right .some), right .few), right .whole)
 
 module _ {n : ℕ} (right : Length-right n) where
-  pub some-records : 1 ≤ n / size
-  some-records = omega (arith, right .some, right .whole)
+  pub right-some : 1 ≤ n / size
+  right-some = omega (arith, right .some, right .whole)
 
-  pub few-records : n / size ≤ most-records
-  few-records = omega (arith, right .few)
+  pub right-few : n / size ≤ most-records
+  right-few = omega (arith, right .few)

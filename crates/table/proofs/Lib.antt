@@ -6,8 +6,8 @@ pub mod KnownNext
 pub mod FaultLaws
 pub mod RuleLaws
 pub mod ReadLaws
-pub mod Exact
 pub mod Rising
+pub mod Exact
 pub mod Runs
 pub mod Stands
-pub mod ProperLaws
+pub mod TaskLaws

@@ -1,4 +1,4 @@
--- Reading on from record i, with what is known of the records before it: where it ends, and what that says of the bytes.
+-- Reading on from record i, with what is known of the records before it: where it ends, and what that says of them.
 -- Assumes nothing.
 use Prim.Native.Nat.{ℕ, zero, suc, _+_, _-_, _≤_, _<_}
 use mathlib.Core.Path.{_≡_, _∙_}
@@ -10,7 +10,6 @@ use borrow.Author.Count.{below-more}
 use Rattle.laws.proofs.Cases.{lt-or-le}
 use Rattle.table.specs.declared.rules.SoFar.{SoFar}
 use Rattle.table.specs.declared.reader.Shape.{Shape}
-use Rattle.table.specs.declared.reader.Refusal.{Refusal}
 use Rattle.table.specs.declared.reader.Reading.{Reading}
 use Rattle.table.specs.declared.reader.Reading.the-variants.{Table, Refused}
 use Rattle.table.specs.Bytes.{record-of}
@@ -19,7 +18,7 @@ use Rattle.table.specs.Reader.{read-from}
 use Rattle.table.specs.WellFormed.{Good}
 use Rattle.table.specs.Refusals.{Breaks, breaks-2, breaks-3, breaks-4, breaks-5, breaks-6}
 use Rattle.table.proofs.Turns.{read-none, read-passed, read-stopped}
-use Rattle.table.proofs.KnownLaws.{Known}
+use Rattle.table.proofs.KnownLaws.{Known, before-it}
 use Rattle.table.proofs.KnownNext.{known-next}
 use Rattle.table.proofs.FaultLaws.{good-first, breaks-first, good-or-breaks}
 use Rattle.table.proofs.RuleLaws.{rules-caught}
@@ -48,7 +47,7 @@ pub good-from : {s : List ℕ} {i : ℕ} {b : SoFar} (left : ℕ) → Known s i 
     ((j : ℕ) → j < i + left → Good s j) →
     read-from left s i b ≡ Table (record { records = i + left; tasks = record-of s (i + left - 1) .task + 1 })
 good-from {s} {i} {b} zero known some good =
-    read-none 0 s i b ∙ rw (add-zero, known .last (i - 1) (omega arith) (omega (arith, known .some (omega arith))) .task)
+    read-none s i b ∙ rw (add-zero, before-it known (omega arith) .task)
 good-from {s} {i} {b} (suc left) known some good =
     let here = good i (omega arith) in
     let on : i + 1 + left ≡ i + suc left = omega arith in
@@ -76,14 +75,16 @@ pub data Said (s : List ℕ) (n : ℕ) : Reading → Type 0 where
 
 pub said-from : {s : List ℕ} {i : ℕ} {b : SoFar} (left : ℕ) → Known s i b → ((j : ℕ) → j < i → Good s j) →
     Said s (i + left) (read-from left s i b)
-said-from {s} {i} {b} zero known good = rw (read-none 0 s i b) (whole (λ j within. good j (omega arith)))
+said-from {s} {i} {b} zero known good = rw (read-none s i b) (whole (λ j within. good j (omega arith)))
 said-from {s} {i} {b} (suc left) known good =
     elim (good-or-breaks (rules-caught known)) [
       | inl here ↦
           let on : i + 1 + left ≡ i + suc left = omega arith in
-          rw (good-step left known here, ← on) (said-from left (known-next known here) (below-more (Good s) i good here))
+          let so-far = below-more (Good s) i good here in
+          rw (good-step left known here, ← on) (said-from left (known-next known here) so-far)
       | inr breaks ↦
-          let within : i < i + suc left = omega arith in rw (breaks-step left known breaks) (stopped within good breaks)
+          let within : i < i + suc left = omega arith in
+          rw (breaks-step left known breaks) (stopped within good breaks)
     ]
 
 pub said-good : {s : List ℕ} {n : ℕ} {t : Shape} → Said s n (Table t) → (j : ℕ) → j < n → Good s j

@@ -1,6 +1,6 @@
 -- The task numbers of a well-formed table rise one by one, so the records of the tasks below k come first.
 -- Assumes nothing.
-use Prim.Native.Nat.{ℕ, zero, suc, _+_, _-_, _≤_, _<_}
+use Prim.Native.Nat.{ℕ, zero, suc, _-_, _≤_, _<_}
 use mathlib.Core.Path.{_≡_, refl, sym}
 use mathlib.Core.Logic.{inl, inr}
 use mathlib.Core.List.{List}
@@ -13,7 +13,7 @@ use Rattle.laws.proofs.TallyLaws.{Up-to, tally-most, tally-place}
 use Rattle.table.specs.Bytes.{records, record-of}
 use Rattle.table.specs.WellFormed.{WellFormed}
 use Rattle.table.specs.TableOf.{records-before, table-of}
-use Rattle.table.proofs.LengthLaws.{some-records}
+use Rattle.table.proofs.LengthLaws.{right-some}
 
 -- record i is of a task below k
 abbrev is-below : List ℕ → ℕ → ℕ → Bool
@@ -61,10 +61,10 @@ module _ {s : List ℕ} (well : WellFormed s) where
   before-place : (k : ℕ) → Up-to (is-below s k) (records s) (records-before (records s) s k)
   unfolding records-before
   before-place k =
-      tally-place (is-below s k) (records s) (λ i j order within below. lt-ltb (record-of s i .task) k (lower i j order within below))
+      tally-place (is-below s k) (records s) (λ i j order within low. lt-ltb _ _ (lower i j order within low))
     where
       lower : (i j : ℕ) → i ≤ j → j < records s → is-below s k j ≡ true → record-of s i .task < k
-      lower i j order within below = omega (arith, rises i j order within, ltb-true (record-of s j .task) k below)
+      lower i j order within low = omega (arith, rises i j order within, ltb-true (record-of s j .task) k low)
 
   -- the records of the tasks below k are the first `records-before`
   pub before-in : (k j : ℕ) → j < records s → record-of s j .task < k → j < records-before (records s) s k
@@ -75,7 +75,7 @@ module _ {s : List ℕ} (well : WellFormed s) where
 
   -- "16 tasks"
   pub last-record : records s - 1 < records s
-  last-record = omega (arith, some-records (well .long))
+  last-record = omega (arith, right-some (well .long))
 
   pub few-tasks : table-of s .tasks ≤ 16
   few-tasks = omega (arith, well .good (records s - 1) last-record .in-run .low)

@@ -22,7 +22,8 @@ use Rattle.table.proofs.Rising.{before-most, meets, before-in, before-i
 below-or-is : (task k : ℕ) → only (ltb task (k + 1)) 1 ≡ only (ltb task k) 1 + only (eqb task k) 1
 below-or-is task k = which (ltb task k) (eqb task k) refl refl
   where
-    which : (below is : Bool) → ltb task k ≡ below → eqb task k ≡ is → only (ltb task (k + 1)) 1 ≡ only below 1 + only is 1
+    which : (below is : Bool) → ltb task k ≡ below → eqb task k ≡ is →
+        only (ltb task (k + 1)) 1 ≡ only below 1 + only is 1
     which true true e f = absurd (omega (arith, ltb-true task k e, eqb-true task k f))
     which true false e f = rw (lt-ltb task (k + 1) (omega (arith, ltb-true task k e)))
     which false true e f = rw (lt-ltb task (k + 1) (omega (arith, eqb-true task k f)))

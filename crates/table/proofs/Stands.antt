@@ -1,7 +1,7 @@
 -- Where each task stands, by the plan of a table that was read.
 -- Assumes nothing.
 use Prim.Native.Nat.{ℕ, _+_, _-_, _*_, _≤_, _<_}
-use mathlib.Core.Path.{_≡_, refl, sym, ap, _∙_}
+use mathlib.Core.Path.{_≡_, refl, sym, ap}
 use mathlib.Core.List.{List}
 use lib.ListN.{length, getD}
 use native.Mathlib.Omega.{arith}
@@ -9,7 +9,7 @@ use Rattle.laws.proofs.Fill.{tabulate-length, tabulate-at}
 use Rattle.table.specs.declared.plan.Plan.{Plan}
 use Rattle.table.specs.declared.reader.Shape.{Shape}
 use Rattle.table.specs.declared.reader.Reading.the-variants.{Table}
-use Rattle.table.specs.Bytes.{size, records, record-of}
+use Rattle.table.specs.Bytes.{size, records}
 use Rattle.table.specs.Reader.{reading-of}
 use Rattle.table.specs.WellFormed.{WellFormed}
 use Rattle.table.specs.TableOf.{records-before, records-of, task-of, table-of, plan-of}
@@ -52,9 +52,9 @@ pub record Plans (s : List ℕ) (p : Plan) : Type 0 where
   pub long : length (p .first) ≡ 17
   pub stands : (k : ℕ) → k < table-of s .tasks → Planned s k (getD (p .first) k 0) (getD (p .first) (k + 1) 0)
 
-plan-at : (s : List ℕ) (n tasks k : ℕ) → k < 17 → getD (plan-of s n tasks .first) k 0 ≡ records-before n s k
+plan-at : (s : List ℕ) (n tasks k : ℕ) → k ≤ 16 → getD (plan-of s n tasks .first) k 0 ≡ records-before n s k
 unfolding plan-of
-plan-at s n tasks k within = tabulate-at 17 (records-before n s) k within
+plan-at s n tasks k within = tabulate-at 17 (records-before n s) k (omega arith)
 
 plan-long : (s : List ℕ) (n tasks : ℕ) → length (plan-of s n tasks .first) ≡ 17
 unfolding plan-of
@@ -64,22 +64,17 @@ plan-tasks : (s : List ℕ) (n tasks : ℕ) → plan-of s n tasks .tasks ≡ tas
 unfolding plan-of
 plan-tasks s n tasks = refl
 
+plan-stands : {s : List ℕ} → WellFormed s → (tasks k : ℕ) → k < table-of s .tasks →
+    let p = plan-of s (records s) tasks in Planned s k (getD (p .first) k 0) (getD (p .first) (k + 1) 0)
+plan-stands {s} well tasks k below =
+    let few = few-tasks well in
+    rw (plan-at s (records s) tasks k (omega arith), plan-at s (records s) tasks (k + 1) (omega arith))
+    (planned well k below)
+
 pub plans : {s : List ℕ} {p : Plan} → WellFormed s → p ≡ plan-of s (records s) (table-of s .tasks) → Plans s p
 plans {s} well is =
-    rw is
-    (record {
-      tasks-are = plan-tasks s (records s) (table-of s .tasks);
-      long = plan-long s (records s) (table-of s .tasks);
-      stands = stands;
-    })
-  where
-    begins : (k : ℕ) → k ≤ 16 → getD (plan-of s (records s) (table-of s .tasks) .first) k 0 ≡ records-before (records s) s k
-    begins k within = plan-at s (records s) (table-of s .tasks) k (omega arith)
-
-    stands : let p = plan-of s (records s) (table-of s .tasks) in (k : ℕ) → k < table-of s .tasks →
-        Planned s k (getD (p .first) k 0) (getD (p .first) (k + 1) 0)
-    stands k below =
-        let few = few-tasks well in rw (begins k (omega arith), begins (k + 1) (omega arith)) (planned well k below)
+    let stands = plan-stands well (table-of s .tasks) in
+    rw is (record { tasks-are = plan-tasks s _ _; long = plan-long s _ _; stands = stands })
 
 -- in the words of a caller that has read the table
 pub plans-read : (s : List ℕ) (t : Shape) {p : Plan} → reading-of s ≡ Table t → p ≡ plan-of s (t .records) (t .tasks) →

@@ -1,22 +1,19 @@
 -- The reader's loop, turn by turn: what is left to read gives the whole reading.
 -- Assumes nothing.
-use Prim.Native.Nat.{ℕ, zero, suc, _+_, _-_, _/_, _≤_, _<_}
+use Prim.Native.Nat.{ℕ, zero, suc, _+_, _-_, _≤_, _<_}
 use mathlib.Core.Path.{_≡_, refl, sym, ap, _∙_}
 use mathlib.Core.List.{List}
-use mathlib.Core.Bool.{Bool, true, false, cond}
+use mathlib.Core.Bool.{Bool, true, false}
 use lib.ListN.{length}
 use native.Mathlib.Omega.{arith}
 use native.Mathlib.Nat.{sub-zero}
-use Rattle.laws.proofs.Tests.{Catches}
 use Rattle.table.specs.declared.record.Record.{Record}
 use Rattle.table.specs.declared.rules.SoFar.{SoFar}
 use Rattle.table.specs.declared.reader.Shape.{Shape}
-use Rattle.table.specs.declared.reader.Refusal.{Refusal}
-use Rattle.table.specs.declared.reader.Reading.{Reading}
 use Rattle.table.specs.declared.reader.Reading.the-variants.{Table, Refused}
-use Rattle.table.specs.Bytes.{size, records, record-of}
+use Rattle.table.specs.Bytes.{records, record-of}
 use Rattle.table.specs.Rules.{none-yet, begins, fault-of, after-of}
-use Rattle.table.specs.Reader.{most-records, bad-length, refuse-at, read-from, reading-of}
+use Rattle.table.specs.Reader.{most-records, bad-length, read-from, reading-of}
 use Rattle.table.proofs.LengthLaws.{catches-length}
 
 -- ---- the two ways of `reading-of`, and one record of `read-from`
@@ -29,11 +26,11 @@ pub read-long : (s : List ℕ) → bad-length (length s) ≡ false → reading-o
 unfolding reading-of
 read-long s fine = rw fine
 
-module _ (left : ℕ) (s : List ℕ) (i : ℕ) (b : SoFar) where
-  pub read-none : read-from 0 s i b ≡ Table (record { records = i; tasks = b .tasks })
-  unfolding read-from
-  read-none = refl
+pub read-none : (s : List ℕ) (i : ℕ) (b : SoFar) → read-from 0 s i b ≡ Table (record { records = i; tasks = b .tasks })
+unfolding read-from
+read-none s i b = refl
 
+module _ (left : ℕ) (s : List ℕ) (i : ℕ) (b : SoFar) where
   pub read-passed : fault-of b (record-of s i) ≡ 0 →
       read-from (suc left) s i b ≡ read-from left s (i + 1) (after-of b (record-of s i))
   unfolding read-from
@@ -66,16 +63,11 @@ reads-start s is fine =
 
 -- the frames so far grow by at most 1
 frames-grow : (b : SoFar) (x : Record) → after-of b x .frames ≤ b .frames + 1
-frames-grow b x = which (begins b x)
+frames-grow b x = which (begins b x) refl
   where
-    which : (t : Bool) →
-        cond {A = SoFar} t
-        (record { tasks = x .task + 1; frames = 1; kind = x .kind; p = x .p })
-        (record { tasks = b .tasks; frames = b .frames + 1; kind = b .kind; p = b .p })
-        .frames
-        ≤ b .frames + 1
-    which true = omega arith
-    which false = omega arith
+    which : (t : Bool) → begins b x ≡ t → after-of b x .frames ≤ b .frames + 1
+    which true e = rw e (omega arith)
+    which false e = rw e (omega arith)
 
 module _ {s : List ℕ} {n i : ℕ} {b : SoFar} (so-far : Reads-on s n i b) where
   left-is : i < n → n - i ≡ suc (n - (i + 1))
@@ -88,10 +80,11 @@ module _ {s : List ℕ} {n i : ℕ} {b : SoFar} (so-far : Reads-on s n i b) wher
         within = omega arith;
         few = so-far .few;
         frames = omega (arith, so-far .frames, frames-grow b x, ap (λ (y : SoFar). y .frames) after-is);
-        rest =
-            so-far .rest
-            ∙ rw (left-is more, after-is, here) (read-passed (n - (i + 1)) s i b (sym (ap (fault-of b) here) ∙ sym fault-is ∙ none));
+        rest = so-far .rest ∙ rw (left-is more, after-is, here) (read-passed (n - (i + 1)) s i b fine);
       }
+    where
+      fine : fault-of b (record-of s i) ≡ 0
+      fine = sym (fault-is ∙ ap (fault-of b) here) ∙ none
 
   pub reads-refused : {x : Record} {fault : ℕ} → i < n → x ≡ record-of s i → fault ≡ fault-of b x →
       (fault ≡ 0 → ⊥) → Refused (record { number = fault; index = i }) ≡ reading-of s
@@ -107,4 +100,4 @@ module _ {s : List ℕ} {n i : ℕ} {b : SoFar} (so-far : Reads-on s n i b) wher
   reads-done done records-is tasks-is =
       let none : n - i ≡ 0 = omega arith in
       let last : i ≡ n = omega (arith, so-far .within) in
-      sym (so-far .rest ∙ rw (none, read-none 0 s i b, last, records-is, tasks-is))
+      sym (so-far .rest ∙ rw (none, read-none s i b, last, records-is, tasks-is))

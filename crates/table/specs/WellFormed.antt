@@ -23,7 +23,8 @@ pub record Length-right (n : ℕ) : Type 0 where
 pub record In-run (s : List ℕ) (j : ℕ) : Type 0 where
   pub low : record-of s j .task ≤ 15
   pub opens : j ≡ 0 → record-of s j .task ≡ 0
-  pub run : (i : ℕ) → i + 1 ≡ j → (record-of s j .task ≡ record-of s i .task) ⊎ (record-of s j .task ≡ record-of s i .task + 1)
+  pub run : (i : ℕ) → i + 1 ≡ j →
+      (record-of s j .task ≡ record-of s i .task) ⊎ (record-of s j .task ≡ record-of s i .task + 1)
 
 -- rule 3: kinds 1 to 3, one kind in a task, and "Kind 1 is sporadic (one frame)"
 pub record Kind-right (s : List ℕ) (j : ℕ) : Type 0 where

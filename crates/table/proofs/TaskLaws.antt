@@ -1,16 +1,37 @@
--- A well-formed table is proper: its tasks and frames are some and few, and E, D and P lie within document 01's bounds.
+-- The task that a run of records is; and a well-formed table is proper: document 01's bounds on it hold.
 -- Assumes nothing.
-use Prim.Native.Nat.{ℕ, _+_, _-_, _*_, _≤_, _<_}
+use Prim.Native.Nat.{ℕ, _+_, _*_, _≤_, _<_}
 use mathlib.Core.Path.{_≡_, refl}
 use mathlib.Core.List.{List}
 use lib.ListN.{getD}
 use native.Mathlib.Omega.{arith}
-use Rattle.model.specs.Task.{Task, Proper, ProperTable}
+use Rattle.model.specs.Task.{Proper, ProperTable}
 use Rattle.table.specs.Bytes.{size, records, record-of}
 use Rattle.table.specs.WellFormed.{Good, WellFormed}
 use Rattle.table.specs.TableOf.{records-before, records-of, task-of, table-of}
 use Rattle.table.proofs.Rising.{few-tasks}
 use Rattle.table.proofs.Runs.{run-within, run-some, run-few}
+
+-- ---- the task of `count` records from record `first` on
+
+module _ (s : List ℕ) (first count : ℕ) where
+  pub task-count : task-of s first count .count ≡ count
+  unfolding task-of
+  task-count = refl
+
+  pub task-E : (i : ℕ) → task-of s first count .E i ≡ record-of s (first + i) .e
+  unfolding task-of
+  task-E i = refl
+
+  pub task-D : (i : ℕ) → task-of s first count .D i ≡ record-of s (first + i) .d
+  unfolding task-of
+  task-D i = refl
+
+  pub task-P : (i : ℕ) → task-of s first count .P i ≡ record-of s (first + i) .p
+  unfolding task-of
+  task-P i = refl
+
+-- ---- bounds
 
 module _ (s : List ℕ) (bytes : (i : ℕ) → getD s i 0 < 256) where
   -- "each 1 to 65,535": two bytes hold no more

@@ -1,0 +1,2 @@
+pub mod Questions
+pub mod Written

@@ -1,0 +1,61 @@
+-- The meaning of each question on raw bytes: document 01, "What the desk computes" and "When the desk says no".
+-- "Tables are tested first .. Then 7 (for one task's demand or work, 9 before 7)."
+-- Assumes nothing.
+use Prim.Native.Nat.{ℕ}
+use mathlib.Core.Bool.{Bool, true, false, cond}
+use mathlib.Core.List.{List}
+use lib.Dec.{leb, ltb}
+use lib.IntN.{ℤ}
+use Rattle.laws.specs.Search.{Found}
+use Rattle.model.specs.Task.{Task, Table}
+use Rattle.model.specs.Demand.{most, demand, work, margin}
+use Rattle.model.specs.Verdict.{horizon, closing-window, Verdict, verdict}
+use Rattle.model.specs.Answer.{Answer, answered, refused}
+use Rattle.table.specs.declared.reader.Reading.{Reading}
+use Rattle.table.specs.declared.reader.Reading.the-variants as reading
+use Rattle.table.specs.Reader.{reading-of}
+use Rattle.table.specs.TableOf.{table-of}
+
+-- the table's own refusal first; else what is said of a table
+abbrev pub after-reading : {A : Type 0} → Reading → Answer A → Answer A
+after-reading (reading.Table shape) said = said
+after-reading (reading.Refused r) said = refused (r .number) (r .index)
+
+abbrev pub on-table : {A : Type 0} → List ℕ → (Table → Answer A) → Answer A
+on-table s ask = after-reading (reading-of s) (ask (table-of s))
+
+-- this refusal, carrying 0, where the test holds; else the rest
+abbrev pub refuse-if : {A : Type 0} → Bool → ℕ → Answer A → Answer A
+refuse-if test number rest = cond test (refused number 0) rest
+
+-- 7: "t or a window asked about above 65,536"
+abbrev pub too-far : ℕ → Bool
+too-far t = ltb horizon t
+
+-- 9: "no such task"
+abbrev pub no-task : Table → ℕ → Bool
+no-task table k = leb (table .tasks) k
+
+abbrev pub one-task : (Task → ℕ → ℕ) → List ℕ → ℕ → ℕ → Answer ℕ
+one-task sum s k t =
+    on-table s (λ table. refuse-if (no-task table k) 9 (refuse-if (too-far t) 7 (answered (sum (table .task k) t))))
+
+unfoldable pub demand-asked : List ℕ → ℕ → ℕ → Answer ℕ
+demand-asked s k t = one-task demand s k t
+
+unfoldable pub work-asked : List ℕ → ℕ → ℕ → Answer ℕ
+work-asked s k w = one-task work s k w
+
+-- either of the two
+abbrev pub sum-asked : Bool → List ℕ → ℕ → ℕ → Answer ℕ
+sum-asked true s k t = demand-asked s k t
+sum-asked false s k t = work-asked s k t
+
+unfoldable pub margin-asked : List ℕ → ℕ → Answer ℤ
+margin-asked s t = on-table s (λ table. refuse-if (too-far t) 7 (answered (margin table t)))
+
+unfoldable pub window-asked : List ℕ → Answer Found
+window-asked s = on-table s (λ table. answered (closing-window horizon table))
+
+unfoldable pub verdict-asked : List ℕ → Answer Verdict
+verdict-asked s = on-table s (λ table. answered (verdict horizon table))

@@ -1,0 +1,40 @@
+-- The document's answers as the desk's values: one case for each.
+-- Assumes nothing.
+use Prim.Native.Nat.{ℕ}
+use lib.IntN.{ℤ}
+use lib.ListN.{replicate}
+use Rattle.laws.specs.Search.{Found}
+use Rattle.model.specs.Verdict.{Verdict}
+use Rattle.model.specs.Answer.{Answer, answered, refused}
+use Rattle.table.specs.declared.reader.Refusal.{Refusal}
+use Rattle.verdict.specs.Written.{closing-of, judged-of}
+use Rattle.desk.specs.declared.Amount.{Amount}
+use Rattle.desk.specs.declared.Amount.the-variants as amount
+use Rattle.desk.specs.declared.Spare.{Spare}
+use Rattle.desk.specs.declared.Spare.the-variants as spare
+use Rattle.desk.specs.declared.Window.{Window}
+use Rattle.desk.specs.declared.Window.the-variants as window
+use Rattle.desk.specs.declared.Judgement.{Judgement}
+use Rattle.desk.specs.declared.Judgement.the-variants as judgement
+use Rattle.desk.specs.declared.Judged.{Judged}
+
+-- "Every refusal is a refusal number with the record index"
+abbrev pub refusal : ℕ → ℕ → Refusal
+refusal number index = record { number = number; index = index }
+
+abbrev pub amount-of : Answer ℕ → Amount
+amount-of (answered n) = amount.Is n
+amount-of (refused number index) = amount.Refused (refusal number index)
+
+abbrev pub spare-of : Answer ℤ → Spare
+spare-of (answered m) = spare.Is m
+spare-of (refused number index) = spare.Refused (refusal number index)
+
+abbrev pub window-of : Answer Found → Window
+window-of (answered w) = window.Is (closing-of w)
+window-of (refused number index) = window.Refused (refusal number index)
+
+abbrev pub judgement-of : Answer Verdict → Judged
+judgement-of (answered v) = record { judgement = judgement.Is (judged-of v .verdict); starts = judged-of v .starts }
+judgement-of (refused number index) =
+    record { judgement = judgement.Refused (refusal number index); starts = replicate 16 0 }

@@ -2,13 +2,13 @@
 -- "Tables are tested first .. Then 7 (for one task's demand or work, 9 before 7)."
 -- Assumes nothing.
 use Prim.Native.Nat.{ℕ}
-use mathlib.Core.Bool.{Bool, true, false, cond}
+use mathlib.Core.Bool.{Bool, cond}
 use mathlib.Core.List.{List}
 use lib.Dec.{leb, ltb}
 use lib.IntN.{ℤ}
 use Rattle.laws.specs.Search.{Found}
 use Rattle.model.specs.Task.{Task, Table}
-use Rattle.model.specs.Demand.{most, demand, work, margin}
+use Rattle.model.specs.Demand.{demand, work, margin}
 use Rattle.model.specs.Verdict.{horizon, closing-window, Verdict, verdict}
 use Rattle.model.specs.Answer.{Answer, answered, refused}
 use Rattle.table.specs.declared.reader.Reading.{Reading}
@@ -45,11 +45,6 @@ demand-asked s k t = one-task demand s k t
 
 unfoldable pub work-asked : List ℕ → ℕ → ℕ → Answer ℕ
 work-asked s k w = one-task work s k w
-
--- either of the two
-abbrev pub sum-asked : Bool → List ℕ → ℕ → ℕ → Answer ℕ
-sum-asked true s k t = demand-asked s k t
-sum-asked false s k t = work-asked s k t
 
 unfoldable pub margin-asked : List ℕ → ℕ → Answer ℤ
 margin-asked s t = on-table s (λ table. refuse-if (too-far t) 7 (answered (margin table t)))

@@ -1,17 +1,16 @@
 // The desk: each question on raw bytes, answered or refused. Nothing here requires anything of its caller.
 // An answer is `Is` the value, or `Refused` with the refusal's number and record index.
-use table::reader::{Reading, Refusal};
+mod good;
+
+use table::reader::Reading;
+use table::reader::Refusal;
 use verdict::judge::Verdict;
 use verdict::window::Closing;
-
 ghost use mathlib.Core.Path.{_≡_};
-ghost use mathlib.Core.Bool.{true, false};
 ghost use Rattle.table.specs.Reader.{reading-of};
-ghost use Rattle.desk.specs.Questions.{sum-asked, demand-asked, work-asked, margin-asked, window-asked, verdict-asked};
+ghost use Rattle.sums.specs.Sized.{most-by};
+ghost use Rattle.desk.specs.Questions.{one-task, demand-asked, work-asked, margin-asked, window-asked, verdict-asked};
 ghost use Rattle.desk.specs.Written.{amount-of, spare-of, window-of, judgement-of};
-
-// The greatest t, and the greatest window, that is asked about or searched.
-const HORIZON: u64 = 65536;
 
 pub enum Amount {
     Is(u64),
@@ -39,13 +38,6 @@ pub struct Judged {
     pub starts: [u8; 16],
 }
 
-// A refusal that carries no record.
-fn refuse(number: u8) -> Refusal
-    ensures { λ r. ⌜ r ≡ record { number = number; index = 0 } ⌝ }
-{
-    Refusal { number, index: 0 }
-}
-
 // What the bytes are as a table.
 pub fn read_table(s: &[u8]) -> Reading
     ensures { λ r. ⌜ r ≡ reading-of (now (s .entry)) ⌝ }
@@ -55,23 +47,13 @@ pub fn read_table(s: &[u8]) -> Reading
 
 // The demand of one task at t where `due`, else its work in t.
 fn ask_sum(s: &[u8], task: u64, t: u64, due: bool) -> Amount
-    ensures { λ r. ⌜ r ≡ amount-of (sum-asked due (now (s .entry)) task t) ⌝ }
+    ensures { λ r. ⌜ r ≡ amount-of (one-task (most-by due) (now (s .entry)) task t) ⌝ }
 {
     let reading = table::reader::read_table(s);
     let Reading::Table(shape) = reading else {
         return Amount::Refused(table::reader::refusal_of(reading));
     };
-    let records = shape.records;
-    let tasks = shape.tasks;
-    if tasks as u64 <= task {
-        return Amount::Refused(refuse(9));
-    }
-    if HORIZON < t {
-        return Amount::Refused(refuse(7));
-    }
-    let plan = table::plan::make_plan(s, records, tasks);
-    let peak = sums::total::peak_of(s, plan, task as usize, t, due);
-    Amount::Is(peak.sum)
+    good::sum_in(s, shape, task, t, due)
 }
 
 // The demand of a task at t.
@@ -96,14 +78,7 @@ pub fn margin(s: &[u8], t: u64) -> Spare
     let Reading::Table(shape) = reading else {
         return Spare::Refused(table::reader::refusal_of(reading));
     };
-    let records = shape.records;
-    let tasks = shape.tasks;
-    if HORIZON < t {
-        return Spare::Refused(refuse(7));
-    }
-    let plan = table::plan::make_plan(s, records, tasks);
-    let asked = sums::total::total(s, plan, t, true);
-    Spare::Is(sums::margin::spare(t, asked))
+    good::margin_in(s, shape, t)
 }
 
 // The closing window of the table.
@@ -114,10 +89,7 @@ pub fn closing_window(s: &[u8]) -> Window
     let Reading::Table(shape) = reading else {
         return Window::Refused(table::reader::refusal_of(reading));
     };
-    let records = shape.records;
-    let tasks = shape.tasks;
-    let plan = table::plan::make_plan(s, records, tasks);
-    Window::Is(verdict::window::close_by(s, plan, HORIZON))
+    good::window_in(s, shape)
 }
 
 // The earliest-deadline verdict on the table.
@@ -131,14 +103,5 @@ pub fn judge(s: &[u8]) -> Judged
             starts: [0u8; 16],
         };
     };
-    let records = shape.records;
-    let tasks = shape.tasks;
-    let plan = table::plan::make_plan(s, records, tasks);
-    let judged = verdict::judge::judge_to(s, plan, HORIZON);
-    let said = judged.verdict;
-    let starts = judged.starts;
-    Judged {
-        judgement: Judgement::Is(said),
-        starts,
-    }
+    good::judge_in(s, shape)
 }

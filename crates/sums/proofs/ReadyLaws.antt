@@ -9,8 +9,12 @@ use lib.ListN.{length, getD}
 use mir.Syntax.{w8}
 use mir.Val.{Fits}
 use Rattle.model.specs.Task.{Task, Proper, ProperTable}
-use Rattle.table.specs.TableOf.{table-of, task-of}
+use Rattle.table.specs.TableOf.{table-of, task-of, plan-of}
+use Rattle.table.specs.Reader.{reading-of}
 use Rattle.table.specs.declared.plan.Plan.{Plan}
+use Rattle.table.specs.declared.reader.Shape.{Shape}
+use Rattle.table.specs.declared.reader.Reading.the-variants.{Table}
+use Rattle.table.proofs.Exact.{shaped}
 use Rattle.table.proofs.Rising.{few-tasks}
 use Rattle.table.proofs.Stands.{Planned, Plans, plans}
 use Rattle.table.proofs.TaskLaws.{proper-table}
@@ -20,6 +24,13 @@ use Rattle.sums.specs.Sized.{ceiling, Stands, Ready, Greatest}
 -- what a `&[u8]` brings with it
 abbrev pub Bytes : List ℕ → Type 0
 Bytes s = (i : ℕ) → Fits w8 (getD s i 0)
+
+-- a caller that has read a table and made its plan is ready
+pub ready-read : (s : List ℕ) (shape : Shape) {plan : Plan} → reading-of s ≡ Table shape
+    → plan ≡ plan-of s (shape .records) (shape .tasks) → Ready s plan
+ready-read s shape read made =
+    let told = shaped s shape read in
+    record { good = told .well; plan-is = rw (told .records-are, told .tasks-are) at made }
 
 module _ {s : List ℕ} {plan : Plan} (ready : Ready s plan) where
   all : Plans s plan

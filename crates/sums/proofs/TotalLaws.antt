@@ -8,9 +8,9 @@ use native.Mathlib.Omega.{arith}
 use Rattle.laws.specs.Sums.{sum}
 use Rattle.laws.proofs.SumLaws.{sum-zero, sum-turn}
 use Rattle.model.specs.Task.{Table}
-use Rattle.model.specs.Demand.{most, all-demands, all-work}
+use Rattle.model.specs.Demand.{all-demands, all-work}
 use Rattle.sums.specs.declared.peak.Peak.{Peak}
-use Rattle.sums.specs.Sized.{longest, reach-by, total-by, Greatest, Total}
+use Rattle.sums.specs.Sized.{longest, most-by, total-by, Greatest, Total}
 
 -- the two conditions are the document's two sums
 pub demands-are : {table : Table} {t r : ℕ} → Total table true t r → r ≡ all-demands table t
@@ -22,12 +22,12 @@ unfolding total-by all-work
 work-is total = total .is
 
 abbrev peaks : Table → Bool → ℕ → ℕ → ℕ
-peaks table due t k = most (table .task k) (reach-by due (table .task k)) t
+peaks table due t k = most-by due (table .task k) t
 
 -- the tasks below k are added
 pub record Adding (table : Table) (due : Bool) (t so-far k : ℕ) : Type 0 where
   pub within : k ≤ table .tasks
-  pub is : so-far ≡ sum k (λ j. most (table .task j) (reach-by due (table .task j)) t)
+  pub is : so-far ≡ sum k (λ j. most-by due (table .task j) t)
   pub small : so-far ≤ k * (longest * t)
 
 pub adding-none : (table : Table) (due : Bool) (t : ℕ) → Adding table due t 0 0

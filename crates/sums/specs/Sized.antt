@@ -27,9 +27,12 @@ longest = 65535
 abbrev pub reach-by : Bool → Task → ℕ → ℕ
 reach-by due task i = cond due (task .D i) 1
 
--- the demands of all tasks, or their work
+-- the demand of a task, or its work; and of all tasks
+abbrev pub most-by : Bool → Task → ℕ → ℕ
+most-by due task t = most task (reach-by due task) t
+
 unfoldable pub total-by : Bool → Table → ℕ → ℕ
-total-by due table t = sum (table .tasks) (λ k. most (table .task k) (reach-by due (table .task k)) t)
+total-by due table t = sum (table .tasks) (λ k. most-by due (table .task k) t)
 
 -- ---- what is required
 
@@ -56,7 +59,7 @@ pub record Raised (peak : Peak) (sum start : ℕ) (r : Peak) : Type 0 where
 
 -- the greatest over all starts, and the lowest start that gives it
 pub record Greatest (task : Task) (due : Bool) (t : ℕ) (r : Peak) : Type 0 where
-  pub sum-is : r .sum ≡ most task (reach-by due task) t
+  pub sum-is : r .sum ≡ most-by due task t
   pub start-is : r .start ≡ lowest task (reach-by due task) t
   pub inside : r .start < task .count
   pub at-most : r .sum ≤ longest * t

@@ -1,0 +1,83 @@
+-- The ways through a question: the table's refusal, the refusals of the question, the answer.
+-- Assumes nothing.
+use Prim.Native.Nat.{ℕ, _*_, _≤_, _<_}
+use mathlib.Core.Bool.{Bool, true, false}
+use mathlib.Core.Path.{_≡_, refl, sym, ap, _∙_}
+use mathlib.Core.List.{List}
+use native.Mathlib.Omega.{arith}
+use lib.IntN.{ℤ}
+use lib.ListN.{length}
+use borrow.Author.Tests.{lt-ltb, le-ltb, le-leb, lt-leb}
+use Rattle.model.specs.Task.{Task}
+use Rattle.model.specs.Demand.{margin}
+use Rattle.model.specs.Verdict.{horizon, closing-window, verdict}
+use Rattle.model.specs.Answer.{Answer, answered, refused}
+use Rattle.table.specs.declared.reader.Shape.{Shape}
+use Rattle.table.specs.declared.reader.Refusal.{Refusal}
+use Rattle.table.specs.declared.reader.Reading.{Reading}
+use Rattle.table.specs.declared.reader.Reading.the-variants as reading
+use Rattle.table.specs.Reader.{most-records, reading-of, refusal-in}
+use Rattle.table.specs.Bytes.{size}
+use Rattle.table.specs.TableOf.{table-of, plan-of}
+use Rattle.table.specs.declared.plan.Plan.{Plan}
+use Rattle.table.proofs.Exact.{shaped}
+use Rattle.sums.specs.Sized.{ceiling}
+use Rattle.sums.proofs.ReadyLaws.{ready-read, ready-tasks}
+use Rattle.desk.specs.Questions.{after-reading, one-task, margin-asked, window-asked, verdict-asked}
+
+-- the sums are proved for every t that the desk answers
+pub horizon-low : horizon ≤ ceiling
+unfolding horizon
+horizon-low = omega arith
+
+-- the table's refusal is passed on, whatever else would be said
+pub passed-on : {A : Type 0} (s : List ℕ) (said : Answer A) {r : Reading} {y no : Refusal} → r ≡ reading-of s
+    → r ≡ reading.Refused y → no ≡ refusal-in r → refused (no .number) (no .index) ≡ after-reading (reading-of s) said
+passed-on s said read told taken =
+    ap (λ (x : Refusal). refused (x .number) (x .index)) (taken ∙ ap refusal-in told)
+    ∙ sym (ap (λ (x : Reading). after-reading x said) (sym read ∙ told))
+
+module _ (s : List ℕ) (shape : Shape) (read : reading-of s ≡ reading.Table shape) where
+  tasks : shape .tasks ≡ table-of s .tasks
+  tasks = shaped s shape read .tasks-are
+
+  -- ---- what making the plan asks, and what it gives
+
+  pub plan-room : (shape .records * size ≤ length s) × (shape .records ≤ most-records)
+  plan-room = let told = shaped s shape read in (told .inside, told .few-records)
+
+  pub plan-tasks : {plan : Plan} → plan ≡ plan-of s (shape .records) (shape .tasks) → plan .tasks ≡ shape .tasks
+  plan-tasks made = ready-tasks (ready-read s shape read made) ∙ sym tasks
+
+  -- ---- one task: 9, then 7
+
+  module _ (sum : Task → ℕ → ℕ) (k t : ℕ) where
+    pub no-such-task : shape .tasks ≤ k → refused 9 0 ≡ one-task sum s k t
+    no-such-task past = rw (read, le-leb (table-of s .tasks) k (omega (arith, tasks)))
+
+    pub task-too-far : k < shape .tasks → horizon < t → refused 7 0 ≡ one-task sum s k t
+    task-too-far inside far = rw (read, lt-leb (table-of s .tasks) k (omega (arith, tasks)), lt-ltb horizon t far)
+
+    pub task-answered : {n : ℕ} → k < shape .tasks → t ≤ horizon → n ≡ sum (table-of s .task k) t → answered n ≡ one-task sum s k t
+    task-answered inside near is =
+        rw (read, lt-leb (table-of s .tasks) k (omega (arith, tasks)), le-ltb horizon t near, is)
+
+  -- ---- the margin: 7
+
+  pub margin-too-far : (t : ℕ) → horizon < t → refused 7 0 ≡ margin-asked s t
+  unfolding margin-asked
+  margin-too-far t far = rw (read, lt-ltb horizon t far)
+
+  pub margin-answered : (t : ℕ) {m : ℤ} → t ≤ horizon → m ≡ margin (table-of s) t → answered m ≡ margin-asked s t
+  unfolding margin-asked
+  margin-answered t near is = rw (read, le-ltb horizon t near, is)
+
+  -- ---- the window and the verdict: nothing more
+
+  pub window-answered : answered (closing-window horizon (table-of s)) ≡ window-asked s
+  unfolding window-asked
+  window-answered = rw read
+
+  pub verdict-answered : answered (verdict horizon (table-of s)) ≡ verdict-asked s
+  unfolding verdict-asked
+  verdict-answered = rw read

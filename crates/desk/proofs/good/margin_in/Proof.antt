@@ -1,0 +1,42 @@
+-- `margin_in` meets its contract: 7, or t minus the sum of the demands.
+-- Assumes nothing.
+use mathlib.Core.Path.{ap, _∙_}
+use native.Mathlib.Omega.{arith}
+use borrow.Author.Needs.{needs}
+use lib.IntN.{subℕ}
+use Rattle.laws.proofs.SignedLaws.{signed-kept}
+use Rattle.model.specs.Verdict.{horizon}
+use Rattle.sums.proofs.ReadyLaws.{ready-read}
+use Rattle.sums.proofs.TotalLaws.{demands-are}
+use Rattle.desk.specs.Written.{spare-of}
+use Rattle.desk.specs.declared.Spare.the-variants.{Refused}
+use Rattle.desk.proofs.AskLaws.{plan-room, margin-too-far, margin-answered}
+use Rattle.desk.proofs.good.margin_in.Statement.{statement}
+use Rattle.desk.proofs.good.margin_in.Tie as tie
+
+-- t is too far
+returns : tie.Need-returns
+unfolding horizon
+returns c =
+    let entry = c .before .before .before in
+    ap Refused (c .refuse .ensures) ∙ ap spare-of (margin-too-far _ _ (entry .pre) (entry .args .t) (search needs))
+
+make-plan-requires : tie.Need-make-plan-requires
+make-plan-requires c κs = plan-room _ _ (c .before .before .pre)
+
+total-requires : tie.Need-total-requires
+total-requires c κs = (ready-read _ _ (c .before .before .before .pre) (c .make-plan .ensures), search needs)
+
+-- the margin as the machine holds it is the margin
+returns-2 : tie.Need-returns-2
+unfolding horizon
+returns-2 c =
+    let asked = c .before in
+    let entry = asked .before .before .before .before in
+    let made = signed-kept (c .spare .result) (c .spare .ok) ∙ c .spare .ensures ∙ ap (subℕ (entry .args .t)) (demands-are (asked .total .ensures)) in
+    ap spare-of (margin-answered _ _ (entry .pre) (entry .args .t) (search needs) made)
+
+pub margin-in-spec : {M : Type 1} → statement M
+margin-in-spec =
+    tie.close
+    (tie.spec (λ c κs. search needs) returns make-plan-requires total-requires (λ c κs. search needs) returns-2)

@@ -1,0 +1,54 @@
+-- `sum_in` meets its contract: 9, then 7, then the task's peak.
+-- Assumes nothing.
+use mathlib.Core.Path.{ap, _∙_}
+use native.Mathlib.Omega.{arith}
+use borrow.Author.Needs.{needs}
+use Rattle.model.specs.Verdict.{horizon}
+use Rattle.sums.specs.Sized.{most-by}
+use Rattle.sums.proofs.ReadyLaws.{ready-read}
+use Rattle.desk.specs.Written.{amount-of}
+use Rattle.desk.specs.declared.Amount.the-variants.{Refused}
+use Rattle.desk.proofs.AskLaws.{horizon-low, plan-room, plan-tasks, no-such-task, task-too-far, task-answered}
+use Rattle.desk.proofs.good.sum_in.Statement.{statement}
+use Rattle.desk.proofs.good.sum_in.Tie as tie
+
+-- no such task
+returns : tie.Need-returns
+returns c =
+    let entry = c .before .before .before in
+    ap Refused (c .refuse .ensures) ∙ ap amount-of (no-such-task _ _ (entry .pre) (most-by (entry .args .due)) (entry .args .task) (entry .args .t) (search needs))
+
+-- t is too far
+returns-2 : tie.Need-returns-2
+unfolding horizon
+returns-2 c =
+    let entry = c .before .before .before .before in
+    ap Refused (c .refuse2 .ensures) ∙ ap amount-of (task-too-far _ _ (entry .pre) (most-by (entry .args .due)) (entry .args .task) (entry .args .t) (search needs) (search needs))
+
+make-plan-requires : tie.Need-make-plan-requires
+make-plan-requires c κs = plan-room _ _ (c .before .before .before .pre)
+
+peak-of-requires : tie.Need-peak-of-requires
+unfolding horizon
+peak-of-requires c κs =
+    let entry = c .before .before .before .before in
+    let tasks = plan-tasks _ _ (entry .pre) (c .make-plan .ensures) in
+    (ready-read _ _ (entry .pre) (c .make-plan .ensures), omega arith, omega arith)
+
+returns-3 : tie.Need-returns-3
+unfolding horizon
+returns-3 c =
+    let entry = c .before .before .before .before .before in
+    ap amount-of (task-answered _ _ (entry .pre) (most-by (entry .args .due)) (entry .args .task) (entry .args .t) (search needs) (search needs) (c .peak-of .ensures .sum-is))
+
+pub sum-in-spec : {M : Type 1} → statement M
+sum-in-spec =
+    tie.close
+    (tie.spec
+    (λ c κs. search needs)
+    returns
+    (λ c κs. search needs)
+    returns-2
+    make-plan-requires
+    peak-of-requires
+    returns-3)

@@ -1,0 +1,31 @@
+-- `margin` meets its contract: the table's refusal is passed on; a table is asked.
+-- Assumes nothing.
+use mathlib.Core.Path.{sym, ap, _∙_}
+use borrow.Author.Needs.{needs}
+use Rattle.desk.specs.Questions.{margin-asked}
+use Rattle.desk.specs.Written.{spare-of}
+use Rattle.desk.proofs.AskLaws.{passed-on}
+use Rattle.desk.proofs.margin.Statement.{statement}
+use Rattle.desk.proofs.margin.Tie as tie
+
+-- refused
+returns : tie.Need-returns
+unfolding margin-asked
+returns c =
+    let told = c .before in
+    ap spare-of (passed-on _ _ (told .before .before .read-table .ensures) (told .enum-told .given .1) (c .refusal-of .ensures))
+
+margin-in-requires : tie.Need-margin-in-requires
+margin-in-requires c κs = sym (c .before .before .before .read-table .ensures) ∙ c .before .reading .given .1
+
+pub margin-spec : {M : Type 1} → statement M
+margin-spec =
+    tie.close
+    (tie.spec
+    (λ c κs. search needs)
+    (λ c. search needs)
+    (λ c. search needs)
+    (λ c κs. search needs)
+    returns
+    margin-in-requires
+    (λ c. search needs))

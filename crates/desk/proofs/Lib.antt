@@ -1,1 +1,3 @@
 pub mod AskLaws
+pub mod SameLaws
+pub mod NamedLaws

@@ -1,0 +1,70 @@
+-- Each named number is what the rules give: one computed test of the whole table, and one law that turns it into that.
+-- The verdict is computed by the walk that stops at the closing window, and carried over by its law.
+-- Assumes nothing.
+use mathlib.Core.Bool.{Bool, true, false, _&&_}
+use mathlib.Core.Path.{_≡_, refl, sym, _∙_, ap}
+use mathlib.Core.List.{List, [], _∷_}
+use Prim.Native.Nat.{ℕ, zero, suc, _<_}
+use native.Mathlib.Omega.{arith}
+use lib.Dec.{T, ltb, ltb→lt}
+use lib.ListN.{length, getD}
+use Rattle.laws.specs.Sums.{sum, greatest, tabulate}
+use Rattle.laws.specs.Search.{least-from, first-least}
+use Rattle.model.specs.Demand.{frame, offset, counted, lowest, all-demands, all-work}
+use Rattle.model.specs.Verdict.{horizon, closes, overloads, starts, overloaded-at, fits-at}
+use Rattle.model.specs.Answer.{Answer, answered}
+use Rattle.model.proofs.WalkLaws.{walk, walk-is}
+use Rattle.table.specs.declared.reader.Reading.{Reading}
+use Rattle.table.specs.declared.reader.Reading.the-variants.{Table, Refused}
+use Rattle.table.specs.Bytes.{record-of}
+use Rattle.table.specs.Reader.{read-from, reading-of}
+use Rattle.table.specs.TableOf.{records-before, records-of, task-of, table-of}
+use Rattle.table.proofs.Exact.{read-good}
+use Rattle.table.proofs.TaskLaws.{proper-table}
+use Rattle.desk.specs.Questions.{on-table, demand-asked, verdict-asked}
+use Rattle.desk.specs.Named.{Question, demand-of, verdict-on, Said, says-number, says-verdict, said, Row, A, B, named}
+use Rattle.desk.proofs.SameLaws.{both-left, both-right, every, every-at, same-int, same-list, same-verdict, same-answer, same-said, same-said-is}
+
+-- what the rules say, by the walk
+quick : List ℕ → Question → Said
+quick s (demand-of task t) = says-number (demand-asked s task t)
+quick s verdict-on = says-verdict (on-table s (λ table. answered (walk table horizon 1)))
+
+is-byte : ℕ → Bool
+is-byte x = ltb x 256
+
+bytes-are : (s : List ℕ) → T (every is-byte s) → (i : ℕ) → getD s i 0 < 256
+unfolding every is-byte
+bytes-are [] h i = omega arith
+bytes-are (x ∷ s) h zero = ltb→lt x 256 (both-left (is-byte x) (every is-byte s) h)
+bytes-are (x ∷ s) h (suc i) = bytes-are s (both-right (is-byte x) (every is-byte s) h) i
+
+quick-is : (s : List ℕ) (q : Question) → T (every is-byte s) → quick s q ≡ said s q
+unfolding quick verdict-asked
+quick-is s (demand-of task t) h = refl
+quick-is s verdict-on h = which (reading-of s) refl
+  where
+    which : (r : Reading) → reading-of s ≡ r → says-verdict (on-table s (λ table. answered (walk table horizon 1))) ≡ says-verdict (verdict-asked s)
+    which (Table shape) read =
+        rw (read, walk-is (proper-table s (bytes-are s h) (read-good s shape read)) horizon)
+    which (Refused r) read = rw read
+
+by-walk : Row → Bool
+by-walk row = same-said (quick (row .bytes) (row .question)) (row .says)
+
+right : Row → Bool
+right row = every is-byte (row .bytes) && by-walk row
+
+right-is : (row : Row) → T (right row) → said (row .bytes) (row .question) ≡ row .says
+unfolding right by-walk
+right-is row h =
+    sym (quick-is (row .bytes) (row .question) (both-left (every is-byte (row .bytes)) (by-walk row) h))
+    ∙ same-said-is (quick (row .bytes) (row .question)) (row .says) (both-right (every is-byte (row .bytes)) (by-walk row) h)
+
+all-right : T (every right named)
+unfolding named A B right by-walk quick is-byte every same-said same-answer same-verdict same-list same-int demand-asked reading-of read-from record-of records-before records-of task-of horizon walk overloads closes overloaded-at fits-at starts lowest all-demands all-work counted offset frame sum greatest tabulate least-from first-least
+all-right = tt
+
+-- K1, K2, K3, K4's verdict, K6, K7
+pub named-right : (i : ℕ) → i < length named → (other : Row) → said (getD named i other .bytes) (getD named i other .question) ≡ getD named i other .says
+named-right i below other = right-is (getD named i other) (every-at right named other all-right i below)

@@ -1,0 +1,119 @@
+-- A test that two answers are the same, and that it is right: what the table of named numbers is computed by.
+-- Assumes nothing.
+use mathlib.Core.Bool.{Bool, true, false, _&&_}
+use mathlib.Core.Path.{_≡_, refl, ap, ap₂}
+use mathlib.Core.List.{List, [], _∷_}
+use Prim.Native.Nat.{ℕ, suc, zero, _<_}
+use native.Mathlib.Nat.{le-of-suc-le-suc, not-suc-le-zero}
+use lib.Dec.{T, eqb, eqb→eq}
+use lib.IntN.{ℤ, pos, negsuc}
+use lib.ListN.{length, getD}
+use Rattle.model.specs.Verdict.{Verdict, overloaded, fits, undecided}
+use Rattle.model.specs.Answer.{Answer, answered, refused}
+use Rattle.desk.specs.Named.{Said, says-number, says-verdict}
+
+pub both-left : (a b : Bool) → T (a && b) → T a
+both-left true b h = tt
+both-left false b h = absurd h
+
+pub both-right : (a b : Bool) → T (a && b) → T b
+both-right true b h = h
+both-right false b h = absurd h
+
+-- a test of every element
+unfoldable pub every : {A : Type 0} → (A → Bool) → List A → Bool
+every test [] = true
+every test (x ∷ l) = test x && every test l
+
+pub every-at : {A : Type 0} (test : A → Bool) (l : List A) (d : A) → T (every test l) → (i : ℕ) → i < length l → T (test (getD l i d))
+unfolding every
+every-at test [] d h i below = absurd (not-suc-le-zero below)
+every-at test (x ∷ l) d h zero below = both-left (test x) (every test l) h
+every-at test (x ∷ l) d h (suc i) below = every-at test l d (both-right (test x) (every test l) h) i (le-of-suc-le-suc below)
+
+unfoldable pub same-int : ℤ → ℤ → Bool
+same-int (pos a) (pos b) = eqb a b
+same-int (pos a) (negsuc b) = false
+same-int (negsuc a) (pos b) = false
+same-int (negsuc a) (negsuc b) = eqb a b
+
+same-int-is : (a b : ℤ) → T (same-int a b) → a ≡ b
+unfolding same-int
+same-int-is (pos a) (pos b) h = ap pos (eqb→eq a b h)
+same-int-is (pos a) (negsuc b) h = absurd h
+same-int-is (negsuc a) (pos b) h = absurd h
+same-int-is (negsuc a) (negsuc b) h = ap negsuc (eqb→eq a b h)
+
+unfoldable pub same-list : List ℕ → List ℕ → Bool
+same-list [] [] = true
+same-list [] (y ∷ m) = false
+same-list (x ∷ l) [] = false
+same-list (x ∷ l) (y ∷ m) = eqb x y && same-list l m
+
+same-list-is : (l m : List ℕ) → T (same-list l m) → l ≡ m
+unfolding same-list
+same-list-is [] [] h = refl
+same-list-is [] (y ∷ m) h = absurd h
+same-list-is (x ∷ l) [] h = absurd h
+same-list-is (x ∷ l) (y ∷ m) h =
+    ap₂ _∷_ (eqb→eq x y (both-left (eqb x y) (same-list l m) h)) (same-list-is l m (both-right (eqb x y) (same-list l m) h))
+
+unfoldable pub same-verdict : Verdict → Verdict → Bool
+same-verdict (overloaded t m l) (overloaded u n k) = eqb t u && (same-int m n && same-list l k)
+same-verdict (fits w m t) (fits v n u) = eqb w v && (same-int m n && eqb t u)
+same-verdict undecided undecided = true
+same-verdict (overloaded t m l) (fits v n u) = false
+same-verdict (overloaded t m l) undecided = false
+same-verdict (fits w m t) (overloaded u n k) = false
+same-verdict (fits w m t) undecided = false
+same-verdict undecided (overloaded u n k) = false
+same-verdict undecided (fits v n u) = false
+
+same-verdict-is : (a b : Verdict) → T (same-verdict a b) → a ≡ b
+unfolding same-verdict
+same-verdict-is (overloaded t m l) (overloaded u n k) h =
+    let rest = both-right (eqb t u) (same-int m n && same-list l k) h in
+    let t-is : t ≡ u = eqb→eq t u (both-left (eqb t u) (same-int m n && same-list l k) h) in
+    let m-is : m ≡ n = same-int-is m n (both-left (same-int m n) (same-list l k) rest) in
+    let l-is : l ≡ k = same-list-is l k (both-right (same-int m n) (same-list l k) rest) in
+    rw (t-is, m-is, l-is)
+same-verdict-is (fits w m t) (fits v n u) h =
+    let rest = both-right (eqb w v) (same-int m n && eqb t u) h in
+    let w-is : w ≡ v = eqb→eq w v (both-left (eqb w v) (same-int m n && eqb t u) h) in
+    let m-is : m ≡ n = same-int-is m n (both-left (same-int m n) (eqb t u) rest) in
+    let t-is : t ≡ u = eqb→eq t u (both-right (same-int m n) (eqb t u) rest) in
+    rw (w-is, m-is, t-is)
+same-verdict-is undecided undecided h = refl
+same-verdict-is (overloaded t m l) (fits v n u) h = absurd h
+same-verdict-is (overloaded t m l) undecided h = absurd h
+same-verdict-is (fits w m t) (overloaded u n k) h = absurd h
+same-verdict-is (fits w m t) undecided h = absurd h
+same-verdict-is undecided (overloaded u n k) h = absurd h
+same-verdict-is undecided (fits v n u) h = absurd h
+
+unfoldable pub same-answer : {A : Type 0} → (A → A → Bool) → Answer A → Answer A → Bool
+same-answer same (answered a) (answered b) = same a b
+same-answer same (answered a) (refused n i) = false
+same-answer same (refused m j) (answered b) = false
+same-answer same (refused m j) (refused n i) = eqb m n && eqb j i
+
+same-answer-is : {A : Type 0} (same : A → A → Bool) → ((a b : A) → T (same a b) → a ≡ b) → (x y : Answer A) → T (same-answer same x y) → x ≡ y
+unfolding same-answer
+same-answer-is same is (answered a) (answered b) h = ap answered (is a b h)
+same-answer-is same is (answered a) (refused n i) h = absurd h
+same-answer-is same is (refused m j) (answered b) h = absurd h
+same-answer-is same is (refused m j) (refused n i) h =
+    ap₂ refused (eqb→eq m n (both-left (eqb m n) (eqb j i) h)) (eqb→eq j i (both-right (eqb m n) (eqb j i) h))
+
+unfoldable pub same-said : Said → Said → Bool
+same-said (says-number a) (says-number b) = same-answer eqb a b
+same-said (says-verdict a) (says-verdict b) = same-answer same-verdict a b
+same-said (says-number a) (says-verdict b) = false
+same-said (says-verdict a) (says-number b) = false
+
+pub same-said-is : (x y : Said) → T (same-said x y) → x ≡ y
+unfolding same-said
+same-said-is (says-number a) (says-number b) h = ap says-number (same-answer-is eqb eqb→eq a b h)
+same-said-is (says-verdict a) (says-verdict b) h = ap says-verdict (same-answer-is same-verdict same-verdict-is a b h)
+same-said-is (says-number a) (says-verdict b) h = absurd h
+same-said-is (says-verdict a) (says-number b) h = absurd h

@@ -58,7 +58,8 @@ module _ (s : List ℕ) (shape : Shape) (read : reading-of s ≡ reading.Table s
     pub task-too-far : k < shape .tasks → horizon < t → refused 7 0 ≡ one-task sum s k t
     task-too-far inside far = rw (read, lt-leb (table-of s .tasks) k (omega (arith, tasks)), lt-ltb horizon t far)
 
-    pub task-answered : {n : ℕ} → k < shape .tasks → t ≤ horizon → n ≡ sum (table-of s .task k) t → answered n ≡ one-task sum s k t
+    pub task-answered : {n : ℕ} → k < shape .tasks → t ≤ horizon → n ≡ sum (table-of s .task k) t
+        → answered n ≡ one-task sum s k t
     task-answered inside near is =
         rw (read, lt-leb (table-of s .tasks) k (omega (arith, tasks)), le-ltb horizon t near, is)
 

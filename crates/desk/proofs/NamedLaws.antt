@@ -44,7 +44,8 @@ unfolding quick verdict-asked
 quick-is s (demand-of task t) h = refl
 quick-is s verdict-on h = which (reading-of s) refl
   where
-    which : (r : Reading) → reading-of s ≡ r → says-verdict (on-table s (λ table. answered (walk table horizon 1))) ≡ says-verdict (verdict-asked s)
+    which : (r : Reading) → reading-of s ≡ r
+        → says-verdict (on-table s (λ table. answered (walk table horizon 1))) ≡ says-verdict (verdict-asked s)
     which (Table shape) read =
         rw (read, walk-is (proper-table s (bytes-are s h) (read-good s shape read)) horizon)
     which (Refused r) read = rw read
@@ -59,12 +60,16 @@ right-is : (row : Row) → T (right row) → said (row .bytes) (row .question) �
 unfolding right by-walk
 right-is row h =
     sym (quick-is (row .bytes) (row .question) (both-left (every is-byte (row .bytes)) (by-walk row) h))
-    ∙ same-said-is (quick (row .bytes) (row .question)) (row .says) (both-right (every is-byte (row .bytes)) (by-walk row) h)
+    ∙ same-said-is (quick (row .bytes) (row .question)) (row .says)
+    (both-right (every is-byte (row .bytes)) (by-walk row) h)
 
 all-right : T (every right named)
-unfolding named A B right by-walk quick is-byte every same-said same-answer same-verdict same-list same-int demand-asked reading-of read-from record-of records-before records-of task-of horizon walk overloads closes overloaded-at fits-at starts lowest all-demands all-work counted offset frame sum greatest tabulate least-from first-least
+unfolding named A B right by-walk quick is-byte every same-said same-answer same-verdict same-list same-int
+    demand-asked reading-of read-from record-of records-before records-of task-of horizon walk overloads closes
+    overloaded-at fits-at starts lowest all-demands all-work counted offset frame sum greatest tabulate least-from first-least
 all-right = tt
 
 -- K1, K2, K3, K4's verdict, K6, K7
-pub named-right : (i : ℕ) → i < length named → (other : Row) → said (getD named i other .bytes) (getD named i other .question) ≡ getD named i other .says
+pub named-right : (i : ℕ) → i < length named → (other : Row)
+    → said (getD named i other .bytes) (getD named i other .question) ≡ getD named i other .says
 named-right i below other = right-is (getD named i other) (every-at right named other all-right i below)

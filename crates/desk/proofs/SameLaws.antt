@@ -25,11 +25,13 @@ unfoldable pub every : {A : Type 0} → (A → Bool) → List A → Bool
 every test [] = true
 every test (x ∷ l) = test x && every test l
 
-pub every-at : {A : Type 0} (test : A → Bool) (l : List A) (d : A) → T (every test l) → (i : ℕ) → i < length l → T (test (getD l i d))
+pub every-at : {A : Type 0} (test : A → Bool) (l : List A) (d : A) → T (every test l) → (i : ℕ) → i < length l
+    → T (test (getD l i d))
 unfolding every
 every-at test [] d h i below = absurd (not-suc-le-zero below)
 every-at test (x ∷ l) d h zero below = both-left (test x) (every test l) h
-every-at test (x ∷ l) d h (suc i) below = every-at test l d (both-right (test x) (every test l) h) i (le-of-suc-le-suc below)
+every-at test (x ∷ l) d h (suc i) below =
+    every-at test l d (both-right (test x) (every test l) h) i (le-of-suc-le-suc below)
 
 unfoldable pub same-int : ℤ → ℤ → Bool
 same-int (pos a) (pos b) = eqb a b
@@ -56,7 +58,8 @@ same-list-is [] [] h = refl
 same-list-is [] (y ∷ m) h = absurd h
 same-list-is (x ∷ l) [] h = absurd h
 same-list-is (x ∷ l) (y ∷ m) h =
-    ap₂ _∷_ (eqb→eq x y (both-left (eqb x y) (same-list l m) h)) (same-list-is l m (both-right (eqb x y) (same-list l m) h))
+    ap₂ _∷_ (eqb→eq x y (both-left (eqb x y) (same-list l m) h))
+    (same-list-is l m (both-right (eqb x y) (same-list l m) h))
 
 unfoldable pub same-verdict : Verdict → Verdict → Bool
 same-verdict (overloaded t m l) (overloaded u n k) = eqb t u && (same-int m n && same-list l k)
@@ -97,7 +100,8 @@ same-answer same (answered a) (refused n i) = false
 same-answer same (refused m j) (answered b) = false
 same-answer same (refused m j) (refused n i) = eqb m n && eqb j i
 
-same-answer-is : {A : Type 0} (same : A → A → Bool) → ((a b : A) → T (same a b) → a ≡ b) → (x y : Answer A) → T (same-answer same x y) → x ≡ y
+same-answer-is : {A : Type 0} (same : A → A → Bool) → ((a b : A) → T (same a b) → a ≡ b) → (x y : Answer A)
+    → T (same-answer same x y) → x ≡ y
 unfolding same-answer
 same-answer-is same is (answered a) (answered b) h = ap answered (is a b h)
 same-answer-is same is (answered a) (refused n i) h = absurd h

@@ -50,6 +50,7 @@ unfolding tabulate
 tabulate-at zero f i h = absurd (omega arith)
 tabulate-at (suc n) f i h =
     elim (lt-or-last i n h) [
-      | inl less ↦ List·getD-append (tabulate n f) (f n ∷ []) 0 i (omega (arith, tabulate-length n f)) ∙ tabulate-at n f i less
+      | inl less ↦ List·getD-append (tabulate n f) (f n ∷ []) 0 i (omega (arith, tabulate-length n f))
+          ∙ tabulate-at n f i less
       | inr last ↦ getD-at (tabulate n f) (f n) [] 0 i (tabulate-length n f ∙ sym last) ∙ ap f (sym last)
     ]

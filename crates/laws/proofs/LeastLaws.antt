@@ -1,45 +1,18 @@
 -- The first place of the least value.
 -- Assumes nothing.
-use mathlib.Core.Bool.{Bool, true, false, not, cond}
+use mathlib.Core.Bool.{Bool, true, false, cond}
 use mathlib.Core.Path.{_≡_, refl, sym, _∙_, ap, subst}
 use mathlib.Core.Logic.{inl, inr}
 use Prim.Native.Nat.{ℕ, zero, suc, _≤_, _<_, min}
 use native.Mathlib.Omega.{arith}
 use native.Mathlib.Nat.{le-of-lt, min-eq-left, min-eq-right}
-use lib.Dec.{T, leb, ltb, le→leb, ltb→lt}
+use lib.Dec.{ltb}
 use borrow.Author.Tests.{lt-ltb, le-ltb}
-use lib.IntN.{ℤ, pos, negsuc}
-use lib.Signed.{ltZ, leZ, _≤ℤ_, _<ℤ_, ltZ-yes, ltZ-no, leZ-yes, ≤ℤ-refl, <ℤ-≤ℤ-trans, clashℤ}
+use lib.IntN.{ℤ, pos}
+use lib.Signed.{ltZ, _≤ℤ_, _<ℤ_, ≤ℤ-refl, <ℤ-≤ℤ-trans, clashℤ}
 use Rattle.laws.specs.Search.{first-least}
 use Rattle.laws.proofs.Cases.{lt-or-le}
-
--- ---- the order of signed numbers and its test
-
-pub lt-test : (a b : ℤ) → ltZ a b ≡ true → a <ℤ b
-lt-test a b e = ltZ-yes (subst T (sym e) tt)
-
-pub le-test : (a b : ℤ) → ltZ a b ≡ false → b ≤ℤ a
-le-test a b e = ltZ-no (subst (λ (x : Bool). T (not x)) (sym e) tt)
-
-pub test-lt : (a b : ℤ) → a <ℤ b → ltZ a b ≡ true
-test-lt a b less = which (ltZ a b) refl
-  where
-    which : (x : Bool) → ltZ a b ≡ x → x ≡ true
-    which true e = refl
-    which false e = clashℤ less (le-test a b e)
-
-pub test-le : (a b : ℤ) → b ≤ℤ a → ltZ a b ≡ false
-test-le a b more = which (ltZ a b) refl
-  where
-    which : (x : Bool) → ltZ a b ≡ x → x ≡ false
-    which true e = clashℤ (lt-test a b e) more
-    which false e = refl
-
-lt-le : (a b : ℤ) → a <ℤ b → a ≤ℤ b
-lt-le (pos a) (pos b) less = leZ-yes (le→leb a b (le-of-lt (ltb→lt a b (less .lt))))
-lt-le (pos a) (negsuc b) less = absurd (less .lt)
-lt-le (negsuc a) (pos b) less = leZ-yes tt
-lt-le (negsuc a) (negsuc b) less = leZ-yes (le→leb b a (le-of-lt (ltb→lt b a (less .lt))))
+use Rattle.laws.proofs.SignedOrder.{lt-test, le-test, lt-le}
 
 -- i is the first of 1, .., n at which f is least
 pub record First-least (f : ℕ → ℤ) (n i : ℕ) : Type 0 where
@@ -104,7 +77,9 @@ module _ (f : ℕ → ℤ) where
   first-least-right zero = rw first-least-one alone
   first-least-right (suc n) = which (ltZ (f (suc (suc n))) (f (first-least f (suc n)))) refl (first-least-right n)
     where
-      which : (b : Bool) → ltZ (f (suc (suc n))) (f (first-least f (suc n))) ≡ b → First-least f (suc n) (first-least f (suc n)) → First-least f (suc (suc n)) (cond b (suc (suc n)) (first-least f (suc n)))
+      which : (b : Bool) → ltZ (f (suc (suc n))) (f (first-least f (suc n))) ≡ b
+          → First-least f (suc n) (first-least f (suc n))
+          → First-least f (suc (suc n)) (cond b (suc (suc n)) (first-least f (suc n)))
       which true e l = further (suc n) (first-least f (suc n)) l (lt-test _ _ e)
       which false e l = kept (suc n) (first-least f (suc n)) l (le-test _ _ e)
 
@@ -113,7 +88,10 @@ module _ (f : ℕ → ℤ) where
   first-least-one-only n i j a b =
       elim (lt-or-le i j) [
         | inl less ↦ clashℤ (b .first i (a .from) less) (a .least j (b .from) (b .within))
-        | inr more ↦ elim (lt-or-le j i) [ inl less ↦ clashℤ (a .first j (b .from) less) (b .least i (a .from) (a .within)) | inr same ↦ omega arith ]
+        | inr more ↦ elim (lt-or-le j i) [
+          | inl less ↦ clashℤ (a .first j (b .from) less) (b .least i (a .from) (a .within))
+          | inr same ↦ omega arith
+        ]
       ]
 
 -- ---- a loop that tries f 1, f 2, .. , none of them below zero, and f 1 at most 1
@@ -128,10 +106,15 @@ pub low-none : (f : ℕ → ℤ) → Low-so-far f 0 1 1
 unfolding first-least
 low-none f = record { at-is = refl; low-is = λ h. absurd (omega arith); fresh = λ e. refl }
 
-low-first : {f : ℕ → ℤ} {low at v : ℕ} → Low-so-far f 0 low at → f 1 ≡ pos v → v ≤ 1 → Low-so-far f 1 (min low v) (cond (ltb v low) 1 at)
+low-first : {f : ℕ → ℤ} {low at v : ℕ} → Low-so-far f 0 low at → f 1 ≡ pos v → v ≤ 1
+    → Low-so-far f 1 (min low v) (cond (ltb v low) 1 at)
 unfolding first-least
 low-first {f} {low} {at} {v} so-far here small =
-    record { at-is = place ∙ sym (first-least-one f); low-is = λ h. ap f place ∙ here ∙ ap pos value; fresh = λ e. absurd (omega arith) }
+    record {
+      at-is = place ∙ sym (first-least-one f);
+      low-is = λ h. ap f place ∙ here ∙ ap pos value;
+      fresh = λ e. absurd (omega arith);
+    }
   where
     place : cond (ltb v low) 1 at ≡ 1
     place = ap (cond (ltb v low) 1) (so-far .at-is) ∙ which (ltb v low)
@@ -143,9 +126,11 @@ low-first {f} {low} {at} {v} so-far here small =
     value : v ≡ min low v
     value = omega (arith, so-far .fresh refl)
 
-low-next : {f : ℕ → ℤ} {n low at v : ℕ} → Low-so-far f n low at → 1 ≤ n → f (suc n) ≡ pos v → Low-so-far f (suc n) (min low v) (cond (ltb v low) (suc n) at)
+low-next : {f : ℕ → ℤ} {n low at v : ℕ} → Low-so-far f n low at → 1 ≤ n → f (suc n) ≡ pos v
+    → Low-so-far f (suc n) (min low v) (cond (ltb v low) (suc n) at)
 unfolding first-least
-low-next {f} {n} {low} {at} {v} so-far some here = record { at-is = place; low-is = λ h. value; fresh = λ e. absurd (omega arith) }
+low-next {f} {n} {low} {at} {v} so-far some here =
+    record { at-is = place; low-is = λ h. value; fresh = λ e. absurd (omega arith) }
   where
     place : cond (ltb v low) (suc n) at ≡ first-least f (suc n)
     place = rw (← so-far .at-is, so-far .low-is some, here)

@@ -4,6 +4,7 @@ pub mod LeastLaws
 pub mod PeakLaws
 pub mod SearchLaws
 pub mod SignedLaws
+pub mod SignedOrder
 pub mod SumLaws
 pub mod TallyLaws
 pub mod Tests

@@ -68,7 +68,8 @@ module _ {f : ℕ → ℕ} {n sum place : ℕ} (so-far : Peaked f n sum place) w
       nothing : n ≤ 0 → f n ≡ sum
       nothing none = omega (arith, so-far .sum-is, ap (λ (k : ℕ). greatest k f) (empty none))
 
-  pub peaked-turn : {v sum′ place′ : ℕ} → v ≡ f n → sum′ ≡ max sum v → place′ ≡ cond (ltb sum v) n place → Peaked f (n + 1) sum′ place′
+  pub peaked-turn : {v sum′ place′ : ℕ} → v ≡ f n → sum′ ≡ max sum v → place′ ≡ cond (ltb sum v) n place
+      → Peaked f (n + 1) sum′ place′
   peaked-turn {v} here sum-is place-is = rw (add-one, sum-is, place-is, here) (which (lt-or-le sum (f n)))
     where
       which : (sum < f n) ⊎ (f n ≤ sum) → Peaked f (suc n) (max sum (f n)) (cond (ltb sum (f n)) n place)

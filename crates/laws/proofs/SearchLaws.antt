@@ -27,8 +27,10 @@ Right test many start (at i) = Least test many start i
 Right test many start nowhere = None test many start
 
 -- one number more at the front
-step-back : (test : ℕ → Bool) (start j : ℕ) → test start ≡ false → start ≤ j → (suc start ≤ j → test j ≡ false) → test j ≡ false
-step-back test start j e h rest = elim (lt-or-le start j) [ inl later ↦ rest later | inr here ↦ ap test (same here) ∙ e ]
+step-back : (test : ℕ → Bool) (start j : ℕ) → test start ≡ false → start ≤ j → (suc start ≤ j → test j ≡ false)
+    → test j ≡ false
+step-back test start j e h rest = elim (lt-or-le start j)
+    [ inl later ↦ rest later | inr here ↦ ap test (same here) ∙ e ]
   where
     same : j ≤ start → j ≡ start
     same here = omega arith
@@ -38,7 +40,8 @@ module _ (test : ℕ → Bool) where
   unfolding least-from
   least-hit many start e = rw (e, least-from)
 
-  pub least-miss : (many start : ℕ) → test start ≡ false → least-from test (suc many) start ≡ least-from test many (suc start)
+  pub least-miss : (many start : ℕ) → test start ≡ false
+      → least-from test (suc many) start ≡ least-from test many (suc start)
   unfolding least-from
   least-miss many start e = rw (e, least-from)
 
@@ -48,7 +51,8 @@ module _ (test : ℕ → Bool) where
   least-is zero start i l = absurd (omega (arith, l .low, l .high))
   least-is (suc many) start i l =
       elim (lt-or-le start i) [
-        | inl later ↦ least-miss many start (l .first start (le-refl start) later) ∙ least-is many (suc start) i (shorter later)
+        | inl later ↦ least-miss many start (l .first start (le-refl start) later)
+            ∙ least-is many (suc start) i (shorter later)
         | inr here ↦ least-hit many start (ap test (same here) ∙ l .passes) ∙ ap at (same here)
       ]
     where
@@ -57,7 +61,12 @@ module _ (test : ℕ → Bool) where
 
       shorter : start < i → Least test many (suc start) i
       shorter later =
-          record { low = later; high = omega (arith, l .high); passes = l .passes; first = λ j h k. l .first j (omega arith) k }
+          record {
+            low = later;
+            high = omega (arith, l .high);
+            passes = l .passes;
+            first = λ j h k. l .first j (omega arith) k;
+          }
 
   pub none-is : (many start : ℕ) → None test many start → least-from test many start ≡ nowhere
   unfolding least-from
@@ -82,7 +91,8 @@ module _ (test : ℕ → Bool) where
           }
       longer nowhere e none = λ j h k. step-back test start j e h (λ later. none j later (omega arith))
 
-      which : (b : Bool) → test start ≡ b → Right test many (suc start) (least-from test many (suc start)) → Right test (suc many) start (least-from test (suc many) start)
+      which : (b : Bool) → test start ≡ b → Right test many (suc start) (least-from test many (suc start))
+          → Right test (suc many) start (least-from test (suc many) start)
       which true e rest =
           rw (least-hit many start e)
           (record { low = le-refl start; high = omega arith; passes = e; first = λ j h k. absurd (omega arith) })

@@ -73,8 +73,10 @@ sum-longer zero zero f h = omega arith
 sum-longer (suc n) zero f h = absurd (omega arith)
 sum-longer zero (suc m) f h = omega arith
 sum-longer (suc n) (suc m) f h =
-    elim (lt-or-le n m)
-    [ inl less ↦ omega (arith, sum-longer (suc n) m f less) | inr more ↦ omega (arith, ap (λ (k : ℕ). sum (suc k) f) (same more)) ]
+    elim (lt-or-le n m) [
+      | inl less ↦ omega (arith, sum-longer (suc n) m f less)
+      | inr more ↦ omega (arith, ap (λ (k : ℕ). sum (suc k) f) (same more))
+    ]
   where
     same : m ≤ n → n ≡ m
     same more = omega arith

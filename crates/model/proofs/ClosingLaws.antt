@@ -10,7 +10,7 @@ use borrow.Author.Tests.{leb-true, leb-false, ltb-true, ltb-false, le-ltb, lt-lt
 use lib.IntN.{pos}
 use lib.Signed.{_≤ℤ_, _<ℤ_}
 use Rattle.laws.proofs.Cases.{lt-or-le, lt-or-last}
-use Rattle.laws.proofs.LeastLaws.{lt-test, le-test, test-lt, test-le}
+use Rattle.laws.proofs.SignedOrder.{lt-test, le-test, test-lt, test-le}
 use Rattle.laws.proofs.SignedLaws.{sub-sign}
 use Rattle.model.specs.Task.{Table, ProperTable}
 use Rattle.model.specs.Demand.{all-demands, all-work, margin}

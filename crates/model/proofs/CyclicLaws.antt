@@ -45,7 +45,8 @@ offset-none : (task : Task) (s : ℕ) → offset task s 0 ≡ 0
 unfolding offset
 offset-none task s = refl
 
-pub offset-on : (task : Task) (s n : ℕ) → s < task .count → offset task s (suc n) ≡ task .P s + offset task (frame task s 1) n
+pub offset-on : (task : Task) (s n : ℕ) → s < task .count
+    → offset task s (suc n) ≡ task .P s + offset task (frame task s 1) n
 unfolding offset
 offset-on task s zero inside = omega (arith, ap (task .P) (frame-none task s inside))
 offset-on task s (suc n) inside = omega (arith, offset-on task s n inside, ap (task .P) (frame-on task s n))
@@ -77,10 +78,12 @@ module _ {task : Task} {reach : ℕ → ℕ} (moves : Moves task reach) where
   counted-zero s = sym (counted-turns 0 0 s (omega arith)) ∙ unfold sum in refl
 
   -- a turn later is a turn of the next frame with less time
-  part-on : (t s n : ℕ) → s < task .count → part task reach t s (suc n) ≡ part task reach (t - task .P s) (frame task s 1) n
+  part-on : (t s n : ℕ) → s < task .count
+      → part task reach t s (suc n) ≡ part task reach (t - task .P s) (frame task s 1) n
   part-on t s n inside =
       ap₂ (λ (off i : ℕ). only (leb (off + reach i) t) (task .E i)) (offset-on task s n inside) (frame-on task s n)
-      ∙ moved (task .P s) (offset task next n) (reach i) (task .E i) (moves .room i (frame-lt task (moves .some) next n))
+      ∙ moved (task .P s) (offset task next n) (reach i) (task .E i)
+      (moves .room i (frame-lt task (moves .some) next n))
     where
       next : ℕ
       next = frame task s 1
@@ -97,12 +100,14 @@ module _ {task : Task} {reach : ℕ → ℕ} (moves : Moves task reach) where
 
   -- one step: the frame's E where its reach fits, and the rest after its P
   pub counted-on : (t s : ℕ) → s < task .count
-      → counted task reach t s ≡ only (leb (reach s) t) (task .E s) + counted task reach (t - task .P s) (frame task s 1)
+      → counted task reach t s
+      ≡ only (leb (reach s) t) (task .E s) + counted task reach (t - task .P s) (frame task s 1)
   counted-on t s inside =
       sym (counted-turns (suc t) t s (omega arith))
       ∙ sum-head t (part task reach t s)
       ∙ ap₂ _+_ first
-      (sum-cong t (λ n. part task reach t s (suc n)) (part task reach (t - task .P s) (frame task s 1)) (λ n h. part-on t s n inside)
+      (sum-cong t (λ n. part task reach t s (suc n)) (part task reach (t - task .P s) (frame task s 1))
+      (λ n h. part-on t s n inside)
       ∙ counted-turns t (t - task .P s) (frame task s 1) (omega arith))
     where
       first : part task reach t s 0 ≡ only (leb (reach s) t) (task .E s)

@@ -60,7 +60,11 @@ module _ {task : Task} {reach : ℕ → ℕ} (moves : Moves task reach) where
   opened = record { some = moves .some; gap = moves .gap; room = λ i h. le-refl 1 }
 
   pub most-zero : most task reach 0 ≡ 0
-  most-zero = omega (arith, greatest-le (counted task reach 0) (task .count) 0 (λ s l. omega (arith, counted-zero moves s)))
+  most-zero = omega (
+    arith,
+    greatest-le (counted task reach 0) (task .count) 0
+        (λ s l. omega (arith, counted-zero moves s)),
+  )
 
   counted-most : (t s : ℕ) → s < task .count → counted task reach t s ≤ most task reach t
   counted-most t s inside = greatest-ge (counted task reach t) (task .count) s inside
@@ -70,11 +74,13 @@ module _ {task : Task} {reach : ℕ → ℕ} (moves : Moves task reach) where
       → counted task (λ i. 1) w s ≡ task .E s + counted task (λ i. 1) (w - task .P s) (frame task s 1)
   work-on w s inside some = omega (arith, counted-on opened w s inside, gate 1 w (task .E s) .passes some)
 
-  split-none : (t s : ℕ) → s < task .count → counted task reach (0 + t) s ≤ counted task (λ i. 1) 0 s + most task reach t
+  split-none : (t s : ℕ) → s < task .count
+      → counted task reach (0 + t) s ≤ counted task (λ i. 1) 0 s + most task reach t
   split-none t s inside = omega (arith, ap (λ (u : ℕ). counted task reach u s) (zero-add t), counted-most t s inside)
 
   -- from frame s: the frames with offset below w are work in w, the others begin anew
-  split-from : (k w t s : ℕ) → w ≤ k → s < task .count → counted task reach (w + t) s ≤ counted task (λ i. 1) w s + most task reach t
+  split-from : (k w t s : ℕ) → w ≤ k → s < task .count
+      → counted task reach (w + t) s ≤ counted task (λ i. 1) w s + most task reach t
   split-from zero zero t s h inside = split-none t s inside
   split-from zero (suc w) t s h inside = absurd (omega arith)
   split-from (suc k) zero t s h inside = split-none t s inside
@@ -86,7 +92,11 @@ module _ {task : Task} {reach : ℕ → ℕ} (moves : Moves task reach) where
       let rest = split-from k (suc w - task .P s) t next (omega (arith, moves .gap s inside)) (next-lt s) in
       elim (lt-or-le (suc w) (task .P s)) [
         | inl past ↦
-            omega (arith, counted-mono task reach (suc w + t - task .P s) t next (omega arith), counted-most t next (next-lt s))
+            omega (
+              arith,
+              counted-mono task reach (suc w + t - task .P s) t next (omega arith),
+              counted-most t next (next-lt s),
+            )
         | inr back ↦ omega (arith, ap (λ (u : ℕ). counted task reach u next) (shorter (task .P s) back))
       ]
     where
@@ -97,16 +107,22 @@ module _ {task : Task} {reach : ℕ → ℕ} (moves : Moves task reach) where
   pub most-split : (w t : ℕ) → most task reach (w + t) ≤ work task w + most task reach t
   most-split w t =
       greatest-le (counted task reach (w + t)) (task .count) (work task w + most task reach t)
-      (λ s inside. omega (arith, split-from w w t s (le-refl w) inside, greatest-ge (counted task (λ i. 1) w) (task .count) s inside))
+      (λ s inside. omega (
+        arith,
+        split-from w w t s (le-refl w) inside,
+        greatest-ge (counted task (λ i. 1) w) (task .count) s inside,
+      ))
 
 -- ---- the whole table
 
-pub all-demands-split : {table : Table} → ProperTable table → (w t : ℕ) → all-demands table (w + t) ≤ all-work table w + all-demands table t
+pub all-demands-split : {table : Table} → ProperTable table → (w t : ℕ)
+    → all-demands table (w + t) ≤ all-work table w + all-demands table t
 unfolding all-demands all-work
 all-demands-split {table} good w t =
     omega (
       arith,
-      sum-mono (table .tasks) (λ k. demand (table .task k) (w + t)) (λ k. work (table .task k) w + demand (table .task k) t)
+      sum-mono (table .tasks) (λ k. demand (table .task k) (w + t))
+          (λ k. work (table .task k) w + demand (table .task k) t)
           (λ k inside. most-split (demand-moves (good .proper k inside)) w t),
       sum-+ (table .tasks) (λ k. work (table .task k) w) (λ k. demand (table .task k) t),
     )
@@ -114,4 +130,5 @@ all-demands-split {table} good w t =
 pub all-demands-zero : {table : Table} → ProperTable table → all-demands table 0 ≡ 0
 unfolding all-demands
 all-demands-zero {table} good =
-    sum-none (table .tasks) (λ k. demand (table .task k) 0) (λ k inside. most-zero (demand-moves (good .proper k inside)))
+    sum-none (table .tasks) (λ k. demand (table .task k) 0)
+    (λ k inside. most-zero (demand-moves (good .proper k inside)))

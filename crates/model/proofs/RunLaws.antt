@@ -30,7 +30,11 @@ module _ {task : Task} {reach : ℕ → ℕ} (moves : Moves task reach) (a b : �
   unfolding one
   one-most at i =
       elim (lt-or-le b (at + reach i)) [
-        | inl out ↦ omega (arith, both-most (leb a at) (leb (at + reach i) b) (task .E i), gate (at + reach i) b (task .E i) .shut out)
+        | inl out ↦ omega (
+          arith,
+          both-most (leb a at) (leb (at + reach i) b) (task .E i),
+          gate (at + reach i) b (task .E i) .shut out,
+        )
         | inr fits ↦
             omega (
               arith,
@@ -49,12 +53,14 @@ module _ {task : Task} {reach : ℕ → ℕ} (moves : Moves task reach) (a b : �
   asked-none s arrive = sum-zero _
 
   asked-on : (s m : ℕ) (arrive : ℕ → ℕ) → s < task .count
-      → asked task reach s (suc m) arrive a b ≡ one (arrive 0) s + asked task reach (frame task s 1) m (λ n. arrive (suc n)) a b
+      → asked task reach s (suc m) arrive a b
+      ≡ one (arrive 0) s + asked task reach (frame task s 1) m (λ n. arrive (suc n)) a b
   unfolding asked one
   asked-on s m arrive inside =
       sum-head m (λ n. one (arrive n) (frame task s n))
       ∙ ap₂ _+_ (ap (one (arrive 0)) (frame-none task s inside))
-      (sum-cong m (λ n. one (arrive (suc n)) (frame task s (suc n))) (λ n. one (arrive (suc n)) (frame task (frame task s 1) n))
+      (sum-cong m (λ n. one (arrive (suc n)) (frame task s (suc n)))
+      (λ n. one (arrive (suc n)) (frame task (frame task s 1) n))
       (λ n h. ap (one (arrive (suc n))) (frame-on task s n)))
 
   run-on : (s m : ℕ) (arrive : ℕ → ℕ) → Run task s (suc m) arrive → Run task (frame task s 1) m (λ n. arrive (suc n))
@@ -69,7 +75,8 @@ module _ {task : Task} {reach : ℕ → ℕ} (moves : Moves task reach) (a b : �
         arith,
         asked-on s m arrive inside,
         one-most (arrive 0) s,
-        late m (frame task s 1) (arrive 0 + task .P s) (λ n. arrive (suc n)) (frame-lt task (moves .some) s 1) (run-on s m arrive run)
+        late m (frame task s 1) (arrive 0 + task .P s) (λ n. arrive (suc n)) (frame-lt task (moves .some) s 1)
+            (run-on s m arrive run)
             (λ some. omega (arith, run 0 (omega arith), ap (task .P) (frame-none task s inside))),
         ap (λ (u : ℕ). counted task reach u (frame task s 1)) (less (arrive 0) (task .P s)),
         counted-on moves (b - arrive 0) s inside,
@@ -79,12 +86,18 @@ module _ {task : Task} {reach : ℕ → ℕ} (moves : Moves task reach) (a b : �
       less : (x p : ℕ) → b - (x + p) ≡ b - x - p
       less x p = omega arith
 
-  pub asked-most : (m s : ℕ) (arrive : ℕ → ℕ) → s < task .count → Run task s m arrive → asked task reach s m arrive a b ≤ most task reach (b - a)
+  pub asked-most : (m s : ℕ) (arrive : ℕ → ℕ) → s < task .count → Run task s m arrive
+      → asked task reach s m arrive a b ≤ most task reach (b - a)
   asked-most zero s arrive inside run = omega (arith, asked-none s arrive)
   asked-most (suc m) s arrive inside run =
-      let rest = asked-most m (frame task s 1) (λ n. arrive (suc n)) (frame-lt task (moves .some) s 1) (run-on s m arrive run) in
+      let rest = asked-most m (frame task s 1) (λ n. arrive (suc n)) (frame-lt task (moves .some) s 1)
+      (run-on s m arrive run) in
       elim (lt-or-le (arrive 0) a) [
         | inl early ↦ omega (arith, asked-on s m arrive inside, one-early (arrive 0) s early)
         | inr in-time ↦
-            omega (arith, late (suc m) s a arrive inside run (λ some. in-time), greatest-ge (counted task reach (b - a)) (task .count) s inside)
+            omega (
+              arith,
+              late (suc m) s a arrive inside run (λ some. in-time),
+              greatest-ge (counted task reach (b - a)) (task .count) s inside,
+            )
       ]

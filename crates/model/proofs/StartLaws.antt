@@ -20,7 +20,8 @@ use Rattle.model.specs.Verdict.{start, start-in, starts}
 use Rattle.model.specs.Meaning.{Starts-at}
 
 -- what a loop over the starts finds is the lowest
-pub lowest-is : (task : Task) (reach : ℕ → ℕ) (t : ℕ) {sum place : ℕ} → Peaked (counted task reach t) (task .count) sum place → place ≡ lowest task reach t
+pub lowest-is : (task : Task) (reach : ℕ → ℕ) (t : ℕ) {sum place : ℕ}
+    → Peaked (counted task reach t) (task .count) sum place → place ≡ lowest task reach t
 unfolding lowest
 lowest-is task reach t peaked = peaked-lowest peaked
 
@@ -35,7 +36,8 @@ module _ (task : Task) (t : ℕ) (some : 1 ≤ task .count) where
   start-only a b x y =
       elim (lt-or-le a b) [
         | inl less ↦ absurd (omega (arith, x .gives, y .lowest a less))
-        | inr more ↦ elim (lt-or-le b a) [ inl less ↦ absurd (omega (arith, y .gives, x .lowest b less)) | inr same ↦ omega arith ]
+        | inr more ↦ elim (lt-or-le b a)
+            [ inl less ↦ absurd (omega (arith, y .gives, x .lowest b less)) | inr same ↦ omega arith ]
       ]
 
   pub start-is : (s : ℕ) → Starts-at task t s → s ≡ start task t
@@ -60,7 +62,8 @@ module _ {table : Table} (good : ProperTable table) (t : ℕ) where
   starts-each k h inside = rw (starts-inside k h inside) (start-right (table .task k) t (good .proper k inside .some))
 
   -- a list of sixteen that has these properties is the starts
-  pub starts-only : (l : List ℕ) → length l ≡ 16 → ((k : ℕ) → k < 16 → k < table .tasks → Starts-at (table .task k) t (getD l k 0))
+  pub starts-only : (l : List ℕ) → length l ≡ 16
+      → ((k : ℕ) → k < 16 → k < table .tasks → Starts-at (table .task k) t (getD l k 0))
       → ((k : ℕ) → k < 16 → table .tasks ≤ k → getD l k 0 ≡ 0) → l ≡ starts table t
   starts-only l sixteen each past =
       ext-getD 0 l (starts table t) (sixteen ∙ sym starts-sixteen) (λ k h. same k (omega arith))
@@ -68,6 +71,7 @@ module _ {table : Table} (good : ProperTable table) (t : ℕ) where
       same : (k : ℕ) → k < 16 → getD l k 0 ≡ getD (starts table t) k 0
       same k h =
           elim (lt-or-le k (table .tasks)) [
-            | inl inside ↦ start-is (table .task k) t (good .proper k inside .some) (getD l k 0) (each k h inside) ∙ sym (starts-inside k h inside)
+            | inl inside ↦ start-is (table .task k) t (good .proper k inside .some) (getD l k 0) (each k h inside)
+                ∙ sym (starts-inside k h inside)
             | inr out ↦ past k h out ∙ sym (starts-past k h out)
           ]

@@ -41,7 +41,8 @@ module _ {table : Table} (good : ProperTable table) (limit : ℕ) where
         past = starts-past good t;
       }
 
-  says-fits : (w : ℕ) → None (overloads table) limit 1 → Least (closes table) limit 1 w → Means limit table (fits-at table w)
+  says-fits : (w : ℕ) → None (overloads table) limit 1 → Least (closes table) limit 1 w
+      → Means limit table (fits-at table w)
   unfolding fits-at
   says-fits w none l =
       let low = least-margin table w (l .low) in
@@ -58,7 +59,8 @@ module _ {table : Table} (good : ProperTable table) (limit : ℕ) where
         first = low .first;
       }
 
-  says : (o c : Found) → Right (overloads table) limit 1 o → Right (closes table) limit 1 c → Means limit table (judged table o c)
+  says : (o c : Found) → Right (overloads table) limit 1 o → Right (closes table) limit 1 c
+      → Means limit table (judged table o c)
   says (at t) c over close = says-overloaded t over
   says nowhere (at w) none close = says-fits w none close
   says nowhere nowhere none open-still =
@@ -80,7 +82,8 @@ module _ {table : Table} (good : ProperTable table) (limit : ℕ) where
   unfolding verdict first-overload overloaded-at
   only-overloaded t m l o =
       ap₂ (overloaded t) (o .margin-is) (starts-only good t l (o .sixteen) (o .each) (o .past))
-      ∙ sym (ap (λ (f : Found). judged table f (closing-window limit table)) (least-is (overloads table) limit 1 t found))
+      ∙ sym (ap (λ (f : Found). judged table f (closing-window limit table))
+      (least-is (overloads table) limit 1 t found))
     where
       found : Least (overloads table) limit 1 t
       found =

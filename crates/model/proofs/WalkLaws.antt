@@ -45,7 +45,8 @@ module _ {table : Table} (good : ProperTable table) where
       → walk table (suc many) t ≡ rule table (suc many) t
   walk-step many t true c e h some calm rest =
       walk-over table many t e
-      ∙ sym (ap (λ (f : Found). judged table f (least-from (closes table) (suc many) t)) (least-hit (overloads table) many t e))
+      ∙ sym (ap (λ (f : Found). judged table f (least-from (closes table) (suc many) t))
+      (least-hit (overloads table) many t e))
   walk-step many t false true e h some calm rest =
       walk-fits table many t e h
       ∙ sym (ap₂ (judged table) (none-is (overloads table) (suc many) t quiet) (least-hit (closes table) many t h))

@@ -59,7 +59,8 @@ module _ {table : Table} (good : ProperTable table) (limit : ℕ) where
 
     pub walking-over : t ≤ limit → t < all-demands table t → overloaded-at table t ≡ verdict limit table
     walking-over more over =
-        sym (ap (λ (k : ℕ). walk table k t) (left more) ∙ walk-over table (suc limit - suc t) t (overloads-yes table t over))
+        sym (ap (λ (k : ℕ). walk table k t) (left more)
+        ∙ walk-over table (suc limit - suc t) t (overloads-yes table t over))
         ∙ walking .rest
 
     module _ {d low′ at′ : ℕ} (tried : Tried table limit t low at d low′ at′) where
@@ -81,7 +82,8 @@ module _ {table : Table} (good : ProperTable table) (limit : ℕ) where
       pub walking-fits : all-work table t ≤ t → fits t (pos low′) at′ ≡ verdict limit table
       unfolding fits-at
       walking-fits closed =
-          ap₂ (λ (m : ℤ) (u : ℕ). fits t m u) (sym (lowest-now .low-is (walking .begun)) ∙ ap (margin table) (lowest-now .at-is)) (lowest-now .at-is)
+          ap₂ (λ (m : ℤ) (u : ℕ). fits t m u)
+          (sym (lowest-now .low-is (walking .begun)) ∙ ap (margin table) (lowest-now .at-is)) (lowest-now .at-is)
           ∙ sym
           (ap (λ (k : ℕ). walk table k t) (left (tried .more))
           ∙ walk-fits table (suc limit - suc t) t (overloads-no table t calm-here) (closes-yes table t closed))

@@ -28,7 +28,8 @@ pub record Counting (task : Task) (due : Bool) (t start left i sum : ℕ) : Type
   pub whole : sum + counted task (reach-by due task) left i ≡ counted task (reach-by due task) t start
 
 -- what one turn reads and makes: the record x of frame i, the room it must have, what it adds
-pub record Turn (s : List ℕ) (first frames : ℕ) (due : Bool) (left i gain left′ i′ : ℕ) (x : Record) (room : ℕ) : Type 0 where
+pub record Turn (s : List ℕ) (first frames : ℕ) (due : Bool) (left i gain left′ i′ : ℕ) (x : Record)
+    (room : ℕ) : Type 0 where
   pub some : 0 < left
   pub record-is : x ≡ record-of s (first + i)
   pub room-is : room ≡ cond due (x .d) 1
@@ -52,25 +53,39 @@ step turn =
       next = turn .next-is;
     }
 
-pub counting-start : (task : Task) (due : Bool) (t start : ℕ) → start < task .count → Counting task due t start t start 0
+pub counting-start : (task : Task) (due : Bool) (t start : ℕ) → start < task .count
+    → Counting task due t start t start 0
 counting-start task due t start inside = record { inside = inside; small = omega arith; whole = omega arith }
 
-module _ {task : Task} (proper : Proper task) {due : Bool} {t start left i sum : ℕ} (so-far : Counting task due t start left i sum) where
+module _ {task : Task} (proper : Proper task) {due : Bool} {t start left i sum : ℕ}
+    (so-far : Counting task due t start left i sum) where
   pub counting-end : left ≤ 0 → Counted task due t start sum
   counting-end none =
       record {
-        is = omega (arith, so-far .whole, ap (λ (u : ℕ). counted task (reach-by due task) u i) zero-left, counted-zero (moves-by due proper) i);
+        is = omega (
+          arith,
+          so-far .whole,
+          ap (λ (u : ℕ). counted task (reach-by due task) u i) zero-left,
+          counted-zero (moves-by due proper) i,
+        );
         at-most = omega (arith, so-far .small);
       }
     where
       zero-left : left ≡ 0
       zero-left = omega arith
 
-  step-on : {gain left′ i′ : ℕ} → left′ < left → Step task due left i gain left′ i′ → Counting task due t start left′ i′ (sum + gain)
+  step-on : {gain left′ i′ : ℕ} → left′ < left → Step task due left i gain left′ i′
+      → Counting task due t start left′ i′ (sum + gain)
   step-on falls one =
       record {
         inside = rw (one .next) (frame-lt task (proper .some) i 1);
-        small = omega (arith, so-far .small, one .gains, gate (reach-by due task i) left (task .E i) .most, proper .short i (so-far .inside));
+        small = omega (
+          arith,
+          so-far .small,
+          one .gains,
+          gate (reach-by due task i) left (task .E i) .most,
+          proper .short i (so-far .inside),
+        );
         whole =
             omega (
               arith,
@@ -89,5 +104,7 @@ module _ {s : List ℕ} {first frames t : ℕ} (stands : Stands s first frames t
   counting-less read leaves some =
       omega (arith, leaves, ap (λ (y : Record). y .p) read, stands .proper .moves i (so-far .inside))
 
-  pub counting-on : {i′ gain : ℕ} (room : ℕ) → Turn s first frames due left i gain left′ i′ x room → Counting (task-of s first frames) due t start left′ i′ (sum + gain)
-  counting-on room turn = step-on (stands .proper) so-far (counting-less (turn .record-is) (turn .left-is) (turn .some)) (step turn)
+  pub counting-on : {i′ gain : ℕ} (room : ℕ) → Turn s first frames due left i gain left′ i′ x room
+      → Counting (task-of s first frames) due t start left′ i′ (sum + gain)
+  counting-on room turn = step-on (stands .proper) so-far
+      (counting-less (turn .record-is) (turn .left-is) (turn .some)) (step turn)

@@ -22,7 +22,8 @@ trying-none task due t =
     record { within = omega arith; peaked = peaked-none (counted task (reach-by due task) t); small = omega arith }
 
 module _ {task : Task} {due : Bool} {t : ℕ} {peak : Peak} {start : ℕ} (trying : Trying task due t peak start) where
-  pub trying-on : {peak′ : Peak} (sum : ℕ) → start < task .count → Counted task due t start sum → Raised peak sum start peak′
+  pub trying-on : {peak′ : Peak} (sum : ℕ) → start < task .count → Counted task due t start sum
+      → Raised peak sum start peak′
       → Trying task due t peak′ (start + 1)
   trying-on sum more one raised =
       record {
@@ -44,4 +45,5 @@ module _ {task : Task} {due : Bool} {t : ℕ} {peak : Peak} {start : ℕ} (tryin
       whole = omega (arith, trying .within)
 
       all : Peaked (counted task (reach-by due task) t) (task .count) (peak .sum) (peak .start)
-      all = subst (λ (n : ℕ). Peaked (counted task (reach-by due task) t) n (peak .sum) (peak .start)) whole (trying .peaked)
+      all = subst (λ (n : ℕ). Peaked (counted task (reach-by due task) t) n (peak .sum) (peak .start)) whole
+          (trying .peaked)

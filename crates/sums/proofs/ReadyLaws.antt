@@ -58,7 +58,8 @@ module _ {s : List ℕ} {plan : Plan} (ready : Ready s plan) where
     pub ready-ordered : getD (plan .first) k 0 ≤ getD (plan .first) (k + 1) 0
     ready-ordered = stands .ordered
 
-    pub ready-stands : (t : ℕ) → t ≤ ceiling → Stands s (getD (plan .first) k 0) (getD (plan .first) (k + 1) 0 - getD (plan .first) k 0) t
+    pub ready-stands : (t : ℕ) → t ≤ ceiling
+        → Stands s (getD (plan .first) k 0) (getD (plan .first) (k + 1) 0 - getD (plan .first) k 0) t
     ready-stands t within =
         record {
           inside = omega (arith, stands .inside, stands .ordered);

@@ -34,7 +34,8 @@ pub adding-none : (table : Table) (due : Bool) (t : ℕ) → Adding table due t 
 adding-none table due t = record { within = omega arith; is = sym (sum-zero (peaks table due t)); small = omega arith }
 
 module _ {table : Table} {due : Bool} {t so-far k : ℕ} (adding : Adding table due t so-far k) where
-  pub adding-on : {peak : Peak} → k < table .tasks → Greatest (table .task k) due t peak → Adding table due t (so-far + peak .sum) (k + 1)
+  pub adding-on : {peak : Peak} → k < table .tasks → Greatest (table .task k) due t peak
+      → Adding table due t (so-far + peak .sum) (k + 1)
   adding-on more most =
       record {
         within = omega arith;

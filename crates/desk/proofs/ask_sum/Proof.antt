@@ -11,7 +11,8 @@ use Rattle.desk.proofs.ask_sum.Tie as tie
 returns : tie.Need-returns
 returns c =
     let told = c .before in
-    ap amount-of (passed-on _ _ (told .before .before .read-table .ensures) (told .enum-told .given .1) (c .refusal-of .ensures))
+    ap amount-of (passed-on _ _ (told .before .before .read-table .ensures) (told .enum-told .given .1)
+    (c .refusal-of .ensures))
 
 sum-in-requires : tie.Need-sum-in-requires
 sum-in-requires c κs = sym (c .before .before .before .read-table .ensures) ∙ c .before .reading .given .1

@@ -13,7 +13,8 @@ returns : tie.Need-returns
 unfolding window-asked
 returns c =
     let told = c .before in
-    ap window-of (passed-on _ _ (told .before .before .read-table .ensures) (told .enum-told .given .1) (c .refusal-of .ensures))
+    ap window-of (passed-on _ _ (told .before .before .read-table .ensures) (told .enum-told .given .1)
+    (c .refusal-of .ensures))
 
 window-in-requires : tie.Need-window-in-requires
 window-in-requires c κs = sym (c .before .before .before .read-table .ensures) ∙ c .before .reading .given .1

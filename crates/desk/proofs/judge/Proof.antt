@@ -13,7 +13,8 @@ returns : tie.Need-returns
 unfolding verdict-asked
 returns c =
     let told = c .before in
-    ap judgement-of (passed-on _ _ (told .before .before .read-table .ensures) (told .enum-told .given .1) (c .refusal-of .ensures))
+    ap judgement-of (passed-on _ _ (told .before .before .read-table .ensures) (told .enum-told .given .1)
+    (c .refusal-of .ensures))
 
 judge-in-requires : tie.Need-judge-in-requires
 judge-in-requires c κs = sym (c .before .before .before .read-table .ensures) ∙ c .before .reading .given .1

@@ -13,7 +13,8 @@ returns : tie.Need-returns
 unfolding margin-asked
 returns c =
     let told = c .before in
-    ap spare-of (passed-on _ _ (told .before .before .read-table .ensures) (told .enum-told .given .1) (c .refusal-of .ensures))
+    ap spare-of (passed-on _ _ (told .before .before .read-table .ensures) (told .enum-told .given .1)
+    (c .refusal-of .ensures))
 
 margin-in-requires : tie.Need-margin-in-requires
 margin-in-requires c κs = sym (c .before .before .before .read-table .ensures) ∙ c .before .reading .given .1

@@ -33,7 +33,8 @@ unfolding horizon
 returns-2 c =
     let asked = c .before in
     let entry = asked .before .before .before .before in
-    let made = signed-kept (c .spare .result) (c .spare .ok) ∙ c .spare .ensures ∙ ap (subℕ (entry .args .t)) (demands-are (asked .total .ensures)) in
+    let made = signed-kept (c .spare .result) (c .spare .ok) ∙ c .spare .ensures
+    ∙ ap (subℕ (entry .args .t)) (demands-are (asked .total .ensures)) in
     ap spare-of (margin-answered _ _ (entry .pre) (entry .args .t) (search needs) made)
 
 pub margin-in-spec : {M : Type 1} → statement M

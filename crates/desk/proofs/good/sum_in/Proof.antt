@@ -16,14 +16,17 @@ use Rattle.desk.proofs.good.sum_in.Tie as tie
 returns : tie.Need-returns
 returns c =
     let entry = c .before .before .before in
-    ap Refused (c .refuse .ensures) ∙ ap amount-of (no-such-task _ _ (entry .pre) (most-by (entry .args .due)) (entry .args .task) (entry .args .t) (search needs))
+    ap Refused (c .refuse .ensures) ∙ ap amount-of
+    (no-such-task _ _ (entry .pre) (most-by (entry .args .due)) (entry .args .task) (entry .args .t) (search needs))
 
 -- t is too far
 returns-2 : tie.Need-returns-2
 unfolding horizon
 returns-2 c =
     let entry = c .before .before .before .before in
-    ap Refused (c .refuse2 .ensures) ∙ ap amount-of (task-too-far _ _ (entry .pre) (most-by (entry .args .due)) (entry .args .task) (entry .args .t) (search needs) (search needs))
+    ap Refused (c .refuse2 .ensures) ∙ ap amount-of
+    (task-too-far _ _ (entry .pre) (most-by (entry .args .due)) (entry .args .task) (entry .args .t)
+    (search needs) (search needs))
 
 make-plan-requires : tie.Need-make-plan-requires
 make-plan-requires c κs = plan-room _ _ (c .before .before .before .pre)
@@ -39,7 +42,8 @@ returns-3 : tie.Need-returns-3
 unfolding horizon
 returns-3 c =
     let entry = c .before .before .before .before .before in
-    ap amount-of (task-answered _ _ (entry .pre) (most-by (entry .args .due)) (entry .args .task) (entry .args .t) (search needs) (search needs) (c .peak-of .ensures .sum-is))
+    ap amount-of (task-answered _ _ (entry .pre) (most-by (entry .args .due)) (entry .args .task) (entry .args .t)
+    (search needs) (search needs) (c .peak-of .ensures .sum-is))
 
 pub sum-in-spec : {M : Type 1} → statement M
 sum-in-spec =

@@ -20,12 +20,14 @@ sub-frames c =
 most-of-requires : tie.Need-most-of-requires
 most-of-requires c κs =
     let entry = c .before .before in
-    ready-stands (entry .pre .0) (c .before .shared-slice-known .given) (entry .args .k) (entry .pre .1) (entry .args .t) (entry .pre .2)
+    ready-stands (entry .pre .0) (c .before .shared-slice-known .given) (entry .args .k) (entry .pre .1)
+    (entry .args .t) (entry .pre .2)
 
 returns : tie.Need-returns
 returns c =
     let entry = c .before .before .before in
-    ready-greatest (entry .pre .0) (c .before .before .shared-slice-known .given) (entry .args .k) (entry .pre .1) (c .most-of .ensures)
+    ready-greatest (entry .pre .0) (c .before .before .shared-slice-known .given) (entry .args .k) (entry .pre .1)
+    (c .most-of .ensures)
 
 pub peak-of-spec : {M : Type 1} → statement M
 peak-of-spec =

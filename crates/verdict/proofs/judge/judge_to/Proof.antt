@@ -31,17 +31,26 @@ returns c =
     let asked = c .before .before in
     let at-loop = asked .before .before in
     let demands = demands-are (asked .total .ensures) in
-    c .overload-at .ensures ∙ ap judged-of (walking-over (good at-loop) _ (at-loop .loop .inv) (search needs) (omega arith))
+    c .overload-at .ensures ∙ ap judged-of
+    (walking-over (good at-loop) _ (at-loop .loop .inv) (search needs) (omega arith))
 
 -- what t brings where it is no overload
 tried : (c : tie.After-total2 Inv-loop μ-loop) →
     let asked = c .before .before .before .before in
     let at-loop = asked .before .before in
-    Tried (table-of (at-loop .before .before .args .s .now)) (at-loop .before .before .args .limit) (at-loop .loop .t) (at-loop .loop .low) (at-loop .loop .at)
+    Tried (table-of (at-loop .before .before .args .s .now)) (at-loop .before .before .args .limit) (at-loop .loop .t)
+    (at-loop .loop .low) (at-loop .loop .at)
     (asked .total .result) (c .before .lesser .result) (c .before .before .first-low .result)
 tried c =
     let asked = c .before .before .before .before in
-    record { more = search needs; asked = demands-are (asked .total .ensures); calm = search needs; low-is = search needs; at-is = search needs }
+    record {
+      more = search needs;
+      asked = demands-are (asked .total .ensures);
+      calm = search needs;
+      low-is =
+          search needs;
+      at-is = search needs;
+    }
 
 -- t closes
 returns-2 : tie.Need-returns-2 Inv-loop μ-loop

@@ -12,7 +12,11 @@ cast-result : tie.Need-cast-result
 cast-result c =
     let known = c .before .before .before in
     let entry = known .before in
-    omega (arith, ready-start (entry .pre .0) (known .shared-slice-known .given) (entry .args .k) (search needs) (c .peak-of .ensures))
+    omega (
+      arith,
+      ready-start (entry .pre .0) (known .shared-slice-known .given) (entry .args .k) (search needs)
+          (c .peak-of .ensures),
+    )
 
 returns : tie.Need-returns
 returns c =

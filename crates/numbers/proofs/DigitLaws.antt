@@ -1,0 +1,85 @@
+-- The laws of digits and of the number that a word spells: one for each way through the code.
+-- Assumes nothing.
+use mathlib.Core.Bool.{Bool, true, false, _&&_}
+use mathlib.Core.List.{List}
+use mathlib.Core.Path.{_≡_, refl}
+use Prim.Native.Nat.{ℕ, suc, _+_, _*_, _-_, _^_, _≤_, _<_}
+use native.Mathlib.Omega.{arith}
+use lib.Dec.{leb}
+use lib.ListN.{length, getD}
+use borrow.Author.Tests.{lt-ltb, le-ltb, leb-true, eq-eqb, ne-eqb}
+use Rattle.numbers.specs.declared.text.Number.the-variants.{Is, Not}
+use Rattle.numbers.specs.Digits.{between, digit-of, longer, number-from, number-of}
+
+and-left : (x y : Bool) → (x && y) ≡ true → x ≡ true
+and-left true y e = refl
+and-left false y e = e
+
+pub between-above : (low b high k : ℕ) → k ≤ low → between low b high ≡ true → k ≤ b
+between-above low b high k below e = omega (arith, leb-true low b (and-left (leb low b) (leb b high) e))
+
+module _ (b : ℕ) where
+  pub digit-decimal : between 48 b 57 ≡ true → b - 48 ≡ digit-of b
+  unfolding digit-of
+  digit-decimal e = simp e
+
+  pub digit-upper : between 48 b 57 ≡ false → between 65 b 70 ≡ true → b - 55 ≡ digit-of b
+  unfolding digit-of
+  digit-upper d e = simp (d, e)
+
+  pub digit-lower : between 48 b 57 ≡ false → between 65 b 70 ≡ false → between 97 b 102 ≡ true → b - 87 ≡ digit-of b
+  unfolding digit-of
+  digit-lower d e f = simp (d, e, f)
+
+  pub digit-none : between 48 b 57 ≡ false → between 65 b 70 ≡ false → between 97 b 102 ≡ false → 16 ≡ digit-of b
+  unfolding digit-of
+  digit-none d e f = simp (d, e, f)
+
+-- a digit behind n
+module _ (n b : ℕ) where
+  pub longer-no-digit : 9 < digit-of b → Not ≡ longer n b
+  unfolding longer
+  longer-no-digit h = rw (lt-ltb 9 (digit-of b) h)
+
+  pub longer-over : digit-of b ≤ 9 → 2 ^ 64 ≤ 10 * n + digit-of b → Not ≡ longer n b
+  unfolding longer
+  longer-over h over = rw (le-ltb 9 (digit-of b) h, le-ltb (10 * n + digit-of b) (2 ^ 64) over)
+
+  pub longer-is : (d : ℕ) → d ≡ digit-of b → d ≤ 9 → 10 * n + d < 2 ^ 64 → Is (10 * n + d) ≡ longer n b
+  unfolding longer
+  longer-is d is h room = rw (← is, le-ltb 9 d h, lt-ltb (10 * n + d) (2 ^ 64) room)
+
+pub number-empty : (word : List ℕ) → length word ≡ 0 → Not ≡ number-of word
+unfolding number-of
+number-empty word none = rw (eq-eqb (length word) 0 none)
+
+-- after the digits before place i, which spell n
+pub record So-far (word : List ℕ) (n i : ℕ) : Type 0 where
+  pub inside : i ≤ length word
+  pub rest : number-from (length word - i) word i n ≡ number-of word
+
+pub so-far-starts : (word : List ℕ) → (length word ≡ 0 → ⊥) → So-far word 0 0
+unfolding number-of
+so-far-starts word some = record { inside = omega arith; rest = rw (whole, ne-eqb (length word) 0 some) }
+  where
+    whole : length word - 0 ≡ length word
+    whole = omega arith
+
+module _ {word : List ℕ} {n i : ℕ} (so-far : So-far word n i) where
+  one-less : i < length word → length word - i ≡ suc (length word - (i + 1))
+  one-less more = omega arith
+
+  pub so-far-stops : i < length word → longer n (getD word i 0) ≡ Not → Not ≡ number-of word
+  unfolding number-from
+  so-far-stops more stop = rw (one-less more, stop) at (so-far .rest)
+
+  pub so-far-turns : (m : ℕ) → i < length word → longer n (getD word i 0) ≡ Is m → So-far word m (i + 1)
+  unfolding number-from
+  so-far-turns m more go = record { inside = omega arith; rest = rw (one-less more, go) at (so-far .rest) }
+
+  pub so-far-ends : length word ≤ i → Is n ≡ number-of word
+  unfolding number-from
+  so-far-ends done = rw (none done) at (so-far .rest)
+    where
+      none : length word ≤ i → length word - i ≡ 0
+      none done = omega arith

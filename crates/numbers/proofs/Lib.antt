@@ -1,0 +1,4 @@
+pub mod DigitLaws
+pub mod HexLaws
+pub mod Signed
+pub mod TextLaws

@@ -1,0 +1,61 @@
+-- The bytes that a word of hex digits spells, and what is filled with them.
+-- Assumes nothing.
+use Prim.Native.Nat.{ℕ, zero, suc, _+_, _*_, _/_, _%_, _≤_}
+use mathlib.Core.Path.{_≡_}
+use mathlib.Core.List.{List, [], _∷_, _++_}
+use mathlib.Core.Bool.{cond}
+use lib.Dec.{ltb, eqb}
+use lib.ListN.{length, getD, take}
+use Rattle.numbers.specs.declared.text.Byte.{Byte}
+use Rattle.numbers.specs.declared.text.Byte.the-variants as byte
+use Rattle.numbers.specs.declared.text.Filled.{Filled}
+use Rattle.numbers.specs.declared.text.Filled.the-variants.{Bytes, Not}
+use Rattle.numbers.specs.declared.text.Problem.the-variants.{NotHex, TooLong}
+use Rattle.numbers.specs.Digits.{digit-of}
+
+-- the byte that two digits spell
+unfoldable pub pair-of : ℕ → ℕ → Byte
+pair-of a b =
+    cond
+    (ltb 15 (digit-of a))
+    byte.Not
+    (cond (ltb 15 (digit-of b)) byte.Not (byte.Is (16 * digit-of a + digit-of b)))
+
+abbrev pub pair-at : List ℕ → ℕ → Byte
+pair-at hex i = pair-of (getD hex (2 * i) 0) (getD hex (2 * i + 1) 0)
+
+abbrev pub or-not-hex : Byte → Filled → Filled
+or-not-hex (byte.Is b) rest = rest
+or-not-hex byte.Not rest = Not NotHex
+
+-- `left` pairs of digits are left, and the next is pair i
+unfoldable pub filled-from : ℕ → List ℕ → ℕ → Filled
+filled-from zero hex i = Bytes i
+filled-from (suc left) hex i = or-not-hex (pair-at hex i) (filled-from left hex (i + 1))
+
+-- what a word fills where there is room for so many bytes
+unfoldable pub filled-of : List ℕ → ℕ → Filled
+filled-of hex room =
+    cond
+    (ltb room (length hex / 2))
+    (Not TooLong)
+    (cond (eqb (length hex % 2) 0) (filled-from (length hex / 2) hex 0) (Not NotHex))
+
+abbrev pub byte-at : List ℕ → ℕ → ℕ
+byte-at hex i = 16 * digit-of (getD hex (2 * i) 0) + digit-of (getD hex (2 * i + 1) 0)
+
+-- the first n bytes that a word spells
+unfoldable pub bytes-of : List ℕ → ℕ → List ℕ
+bytes-of hex zero = []
+bytes-of hex (suc n) = bytes-of hex n ++ (byte-at hex n ∷ [])
+
+-- the bytes that were filled
+abbrev pub size-of : Filled → ℕ
+size-of (Bytes n) = n
+size-of (Not why) = 0
+
+-- the word's bytes stand at the start of what was filled
+pub record Fills (hex before after : List ℕ) (filled : Filled) : Type 0 where
+  pub answer : filled ≡ filled-of hex (length before)
+  pub inside : size-of filled ≤ length after
+  pub bytes : take (size-of filled) after ≡ bytes-of hex (size-of filled)

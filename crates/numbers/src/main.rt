@@ -1,0 +1,115 @@
+// Asks the desk the cases of a text file, one a line, and says its answers.
+// A line is NAME QUESTION NUMBERS TABLE: the table in hex, or - for the empty one. Words stand apart by one or more
+// spaces. Lines with no word, and lines whose first word begins with #, are passed over. A line that cannot be read is
+// said and stops nothing.
+mod question;
+mod say;
+mod text;
+
+use libc::STDERR_FILENO;
+use question::{Case, Kind, Parsed};
+use text::Sort;
+ghost use Prim.Native.Nat.{_≤_};
+ghost use lib.ListN.{length};
+ghost use Rattle.numbers.specs.Case.{table-size};
+
+// Asks the desk, and says what it answers.
+fn answer(kind: Kind, first: u64, second: u64, table: &[u8]) {
+    match kind {
+        Kind::Read => say::say_reading(desk::read_table(table)),
+        Kind::Verdict => say::say_judged(desk::judge(table)),
+        Kind::Window => say::say_window(desk::closing_window(table)),
+        Kind::Margin => say::say_margin(desk::margin(table, first)),
+        Kind::Demand => say::say_amount(b"demand ", desk::demand(table, first, second)),
+        Kind::Work => say::say_amount(b"work ", desk::work(table, first, second)),
+    }
+}
+
+fn answer_case(name: &[u8], case: Case, table: &[u8])
+    requires { ⌜ case .size ≤ length (now table) ⌝ }
+{
+    let kind = case.kind;
+    let size = case.size;
+    say::say(name);
+    say::say(b": ");
+    answer(kind, case.first, case.second, &table[..size]);
+    say::say(b"\n");
+}
+
+fn answer_parsed(number: u64, name: &[u8], parsed: Parsed, table: &[u8])
+    requires { ⌜ table-size parsed ≤ length (now table) ⌝ }
+{
+    match parsed {
+        Parsed::Good(case) => answer_case(name, case, table),
+        Parsed::Bad(why) => say::say_problem(number, why),
+    }
+}
+
+fn answer_line(line: &[u8], number: u64) {
+    let name = text::next_word(line, 0);
+    let from = name.from;
+    let to = name.to;
+    if from == to {
+        return;
+    }
+    if line[from] == b'#' {
+        return;
+    }
+    let mut space = [0u8; 2048];
+    let table: &mut [u8] = &mut space;
+    let parsed = question::read_case(line, to, table);
+    answer_parsed(number, &line[from..to], parsed, table);
+}
+
+// A last line without a line feed counts too.
+fn answer_lines(s: &[u8]) {
+    let mut at: usize = 0;
+    let mut number: u64 = 1;
+    while at < s.len() {
+        let to = text::first_place(Sort::LineFeed, s, at);
+        answer_line(&s[at..to], number);
+        if to == s.len() {
+            return;
+        }
+        at = to + 1;
+        number += 1;
+    }
+}
+
+fn has_more(fd: i32) -> bool {
+    let mut one = [0u8; 1];
+    io::read_full(fd, &mut one) > 0
+}
+
+// A file that the buffer does not hold is not read in part: its last line would be cut.
+fn answer_file(path: &[u8]) {
+    let fd = os::open_read(path);
+    if fd < 0 {
+        os::fail(path);
+        return;
+    }
+    let mut buf = io::large_buffer();
+    let got = io::read_full(fd, &mut buf);
+    let longer = has_more(fd);
+    libc::close(fd);
+    if longer {
+        io::write_all(STDERR_FILENO, path);
+        io::write_all(STDERR_FILENO, b": longer than 65536 bytes\n");
+        return;
+    }
+    answer_lines(&buf[..got]);
+}
+
+fn main() {
+    if os::arg_count() < 2 {
+        answer_file(b"cases.txt");
+        return;
+    }
+    let mut path = io::buffer();
+    let n = os::arg(1, &mut path);
+    if os::errno() != 0 {
+        os::fail(b"the first argument");
+        return;
+    }
+    answer_file(&path[..n]);
+}

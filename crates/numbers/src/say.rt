@@ -1,0 +1,154 @@
+// The desk's answers, and what is wrong with a line, in words on standard output.
+ghost use mathlib.Core.Path.{_≡_};
+ghost use lib.IntN.{natAbs};
+use crate::text::Problem;
+use crate::text::wide;
+use desk::{Amount, Judged, Judgement, Spare, Window};
+use libc::STDOUT_FILENO;
+use table::reader::{Reading, Refusal};
+use verdict::judge::Verdict;
+use verdict::window::Closing;
+
+pub fn say(words: &[u8]) {
+    io::write_all(STDOUT_FILENO, words);
+}
+
+fn say_number(n: u64) {
+    io::print_decimal(STDOUT_FILENO, n);
+}
+
+// How far m is from zero. -1 - m fits where 0 - m does not, at the least number of 64 bits.
+fn magnitude(m: i64) -> u64
+    ensures { λ r. ⌜ r ≡ natAbs m ⌝ }
+{
+    if m < 0 {
+        return (-1 - m) as u64 + 1;
+    }
+    m as u64
+}
+
+fn say_signed(m: i64) {
+    if m < 0 {
+        say(b"-");
+    }
+    say_number(magnitude(m));
+}
+
+fn say_refusal(r: Refusal) {
+    say(b"refused ");
+    say_number(wide(r.number));
+    say(b" ");
+    say_number(r.index as u64);
+}
+
+pub fn say_reading(r: Reading) {
+    match r {
+        Reading::Table(shape) => {
+            say(b"table tasks=");
+            say_number(shape.tasks as u64);
+            say(b" records=");
+            say_number(shape.records as u64);
+        }
+        Reading::Refused(no) => say_refusal(no),
+    }
+}
+
+// A demand or a work, as `what` says.
+pub fn say_amount(what: &[u8], a: Amount) {
+    match a {
+        Amount::Is(n) => {
+            say(what);
+            say_number(n);
+        }
+        Amount::Refused(no) => say_refusal(no),
+    }
+}
+
+pub fn say_margin(m: Spare) {
+    match m {
+        Spare::Is(z) => {
+            say(b"margin ");
+            say_signed(z);
+        }
+        Spare::Refused(no) => say_refusal(no),
+    }
+}
+
+fn say_closing(c: Closing) {
+    match c {
+        Closing::At(n) => {
+            say(b"window ");
+            say_number(n);
+        }
+        Closing::Never => say(b"window none"),
+    }
+}
+
+pub fn say_window(w: Window) {
+    match w {
+        Window::Is(c) => say_closing(c),
+        Window::Refused(no) => say_refusal(no),
+    }
+}
+
+fn say_overload(t: u64, margin: i64, starts: [u8; 16]) {
+    say(b"overloaded t=");
+    say_number(t);
+    say(b" margin=");
+    say_signed(margin);
+    say(b" starts=");
+    say_starts(starts);
+}
+
+// All sixteen, also those past the last task.
+fn say_starts(starts: [u8; 16]) {
+    say_number(wide(starts[0]));
+    let mut k: usize = 1;
+    while k < 16 {
+        say(b",");
+        say_number(wide(starts[k]));
+        k += 1;
+    }
+}
+
+fn say_fit(window: u64, margin: i64, t: u64) {
+    say(b"fits window=");
+    say_number(window);
+    say(b" margin=");
+    say_signed(margin);
+    say(b" at=");
+    say_number(t);
+}
+
+fn say_verdict(v: Verdict, starts: [u8; 16]) {
+    match v {
+        Verdict::Overloaded { t, margin } => say_overload(t, margin, starts),
+        Verdict::Fits { window, margin, t } => say_fit(window, margin, t),
+        Verdict::Undecided => say(b"undecided"),
+    }
+}
+
+pub fn say_judged(j: Judged) {
+    let judgement = j.judgement;
+    let starts = j.starts;
+    match judgement {
+        Judgement::Is(v) => say_verdict(v, starts),
+        Judgement::Refused(no) => say_refusal(no),
+    }
+}
+
+// What is wrong with a line, by the line's number in the file.
+pub fn say_problem(line: u64, why: Problem) {
+    say(b"line ");
+    say_number(line);
+    say(b": cannot be read: ");
+    match why {
+        Problem::NoQuestion => say(b"no such question"),
+        Problem::NoNumber => say(b"a number is missing or not a number"),
+        Problem::NoTable => say(b"the table is missing"),
+        Problem::NotHex => say(b"the table is not hex"),
+        Problem::TooLong => say(b"the table is too long for the buffer"),
+        Problem::Follows => say(b"something follows the table"),
+    }
+    say(b"\n");
+}

@@ -1,4 +1,5 @@
 pub mod Cases
+pub mod Countdown
 pub mod Fill
 pub mod LeastLaws
 pub mod PeakLaws

@@ -1,4 +1,1 @@
-pub mod DigitLaws
-pub mod HexLaws
 pub mod Signed
-pub mod TextLaws

@@ -5,20 +5,21 @@ use mathlib.Core.Path.{_≡_, ap, _∙_}
 use Prim.Native.Nat.{ℕ, suc, _+_, _-_, _^_, _<_}
 use native.Mathlib.Omega.{arith}
 use lib.Dec.{T}
-use lib.IntN.{ℤ, pos, negsuc, natAbs, subℕ, _-ℤ_}
+use lib.IntN.{ℤ, pos, negsuc, natAbs, _-ℤ_}
 use lib.Signed.{mag, ltZ, nonNeg}
 use mir.Syntax.{w64}
 use mir.Val.{SFits, Fits, toZ, ofZ}
 use mir.Facts.{toZ-ofZ}
-use borrow.Author.Tests.{le-ltb, ltb-true}
-
-sub-above : (n : ℕ) → subℕ (suc n) 1 ≡ pos n
-sub-above n = let e : suc n - 1 ≡ n = omega arith in simp (le-ltb (suc n) 1 (omega arith)) (ap pos e)
+use borrow.Author.Tests.{ltb-true}
+use Rattle.laws.proofs.SignedLaws.{sub-above}
 
 -- m below zero
 minus-one-less : (m : ℤ) → ltZ m (pos 0) ≡ true → negsuc 0 -ℤ m ≡ pos (mag m)
 minus-one-less (pos n) below = absurd (omega (arith, ltb-true n 0 below))
-minus-one-less (negsuc n) below = sub-above n
+minus-one-less (negsuc n) below = sub-above (suc n) 1 (omega arith) ∙ ap pos one-off
+  where
+    one-off : suc n - 1 ≡ n
+    one-off = omega arith
 
 one-more : (m : ℤ) → ltZ m (pos 0) ≡ true → mag m + 1 ≡ natAbs m
 one-more (pos n) below = absurd (omega (arith, ltb-true n 0 below))

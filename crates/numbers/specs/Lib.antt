@@ -1,4 +1,1 @@
 pub mod Case
-pub mod Digits
-pub mod Hex
-pub mod Text

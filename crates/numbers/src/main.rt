@@ -4,10 +4,11 @@
 // said and stops nothing.
 mod question;
 mod say;
-mod text;
 
 use libc::STDERR_FILENO;
-use question::{Case, Kind, Parsed};
+use question::Case;
+use question::Kind;
+use question::Parsed;
 use text::Sort;
 ghost use Prim.Native.Nat.{_≤_};
 ghost use lib.ListN.{length};

@@ -1,12 +1,12 @@
 // A line of the file as a question: its kind, its numbers, and its table.
-use crate::text;
-use crate::text::{Filled, Number, Problem};
+use text::Filled;
+use text::Number;
 ghost use mathlib.Core.Path.{_≡_};
 ghost use Prim.Native.Nat.{_≤_};
 ghost use lib.ListN.{length};
-ghost use Rattle.numbers.specs.Text.{Place};
-ghost use Rattle.numbers.specs.Hex.{size-of};
-ghost use Rattle.numbers.specs.Case.{table-size};
+ghost use Rattle.text.specs.Text.{Place};
+ghost use Rattle.text.specs.Hex.{size-of};
+ghost use Rattle.numbers.specs.Case.{lent-size, table-size};
 
 // The questions.
 pub enum Kind {
@@ -22,6 +22,22 @@ pub enum Kind {
 enum Known {
     Is(Kind),
     Not,
+}
+
+// Why a line cannot be read.
+pub enum Problem {
+    NoQuestion,
+    NoNumber,
+    NoTable,
+    NotHex,
+    TooLong,
+    Follows,
+}
+
+// The bytes of a line's table, or why there is none.
+enum Lent {
+    Bytes(usize),
+    Not(Problem),
 }
 
 // A question with its numbers, 0 where it has none, and the bytes of its table.
@@ -103,38 +119,49 @@ fn has_word(line: &[u8], at: usize) -> bool
     w.from < w.to
 }
 
+// What a word fills, as the table of a line.
+fn lent_of(filled: Filled) -> Lent
+    ensures { λ r. ⌜ lent-size r ≡ size-of filled ⌝ }
+{
+    match filled {
+        Filled::Bytes(size) => Lent::Bytes(size),
+        Filled::NotHex => Lent::Not(Problem::NotHex),
+        Filled::TooLong => Lent::Not(Problem::TooLong),
+    }
+}
+
 // The table in the next word, which is the line's last.
-fn table_at(line: &[u8], at: usize, table: &mut [u8]) -> Filled
+fn table_at(line: &[u8], at: usize, table: &mut [u8]) -> Lent
     requires { ⌜ at ≤ length (now line) ⌝ }
-    ensures { λ r. ⌜ size-of r ≤ length (now (table .exit)) ⌝ }
+    ensures { λ r. ⌜ lent-size r ≤ length (now (table .exit)) ⌝ }
 {
     let w = text::next_word(line, at);
     let from = w.from;
     let to = w.to;
     if from == to {
-        return Filled::Not(Problem::NoTable);
+        return Lent::Not(Problem::NoTable);
     }
     if has_word(line, to) {
-        return Filled::Not(Problem::Follows);
+        return Lent::Not(Problem::Follows);
     }
     if text::same(&line[from..to], b"-") {
-        return Filled::Bytes(0);
+        return Lent::Bytes(0);
     }
-    text::fill(&line[from..to], table)
+    lent_of(text::fill(&line[from..to], table))
 }
 
 // A case, where there is a table.
-fn case_of(kind: Kind, first: u64, second: u64, filled: Filled) -> Parsed
-    ensures { λ r. ⌜ table-size r ≡ size-of filled ⌝ }
+fn case_of(kind: Kind, first: u64, second: u64, lent: Lent) -> Parsed
+    ensures { λ r. ⌜ table-size r ≡ lent-size lent ⌝ }
 {
-    match filled {
-        Filled::Bytes(size) => Parsed::Good(Case {
+    match lent {
+        Lent::Bytes(size) => Parsed::Good(Case {
             kind,
             first,
             second,
             size,
         }),
-        Filled::Not(why) => Parsed::Bad(why),
+        Lent::Not(why) => Parsed::Bad(why),
     }
 }
 

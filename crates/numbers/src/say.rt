@@ -1,11 +1,16 @@
 // The desk's answers, and what is wrong with a line, in words on standard output.
 ghost use mathlib.Core.Path.{_≡_};
 ghost use lib.IntN.{natAbs};
-use crate::text::Problem;
-use crate::text::wide;
-use desk::{Amount, Judged, Judgement, Spare, Window};
+use crate::question::Problem;
+use desk::Amount;
+use desk::Judged;
+use desk::Judgement;
+use desk::Spare;
+use desk::Window;
 use libc::STDOUT_FILENO;
-use table::reader::{Reading, Refusal};
+use table::reader::Reading;
+use table::reader::Refusal;
+use text::wide;
 use verdict::judge::Verdict;
 use verdict::window::Closing;
 

@@ -7,6 +7,7 @@ use mathlib.Core.Bool.{Bool, true, false}
 use lib.ListN.{length}
 use native.Mathlib.Omega.{arith}
 use native.Mathlib.Nat.{sub-zero}
+use Rattle.laws.proofs.Countdown.{one-less, none-left}
 use Rattle.table.specs.declared.record.Record.{Record}
 use Rattle.table.specs.declared.rules.SoFar.{SoFar}
 use Rattle.table.specs.declared.reader.Shape.{Shape}
@@ -70,9 +71,6 @@ frames-grow b x = which (begins b x) refl
     which false e = rw e (omega arith)
 
 module _ {s : List ℕ} {n i : ℕ} {b : SoFar} (so-far : Reads-on s n i b) where
-  left-is : i < n → n - i ≡ suc (n - (i + 1))
-  left-is more = omega arith
-
   pub reads-turn : {x : Record} {fault : ℕ} {after : SoFar} → i < n → x ≡ record-of s i → fault ≡ fault-of b x →
       fault ≡ 0 → after ≡ after-of b x → Reads-on s n (i + 1) after
   reads-turn {x} more here fault-is none after-is =
@@ -80,7 +78,7 @@ module _ {s : List ℕ} {n i : ℕ} {b : SoFar} (so-far : Reads-on s n i b) wher
         within = omega arith;
         few = so-far .few;
         frames = omega (arith, so-far .frames, frames-grow b x, ap (λ (y : SoFar). y .frames) after-is);
-        rest = so-far .rest ∙ rw (left-is more, after-is, here) (read-passed (n - (i + 1)) s i b fine);
+        rest = so-far .rest ∙ rw (one-less n i more, after-is, here) (read-passed (n - (i + 1)) s i b fine);
       }
     where
       fine : fault-of b (record-of s i) ≡ 0
@@ -90,7 +88,7 @@ module _ {s : List ℕ} {n i : ℕ} {b : SoFar} (so-far : Reads-on s n i b) wher
       (fault ≡ 0 → ⊥) → Refused (record { number = fault; index = i }) ≡ reading-of s
   reads-refused {x} {fault} more here fault-is some =
       let fault-here : fault-of b (record-of s i) ≡ fault = sym (fault-is ∙ ap (fault-of b) here) in
-      sym (so-far .rest ∙ rw (left-is more) (read-stopped (n - (i + 1)) s i b fault fault-here (one-more fault some)))
+      sym (so-far .rest ∙ rw (one-less n i more) (read-stopped (n - (i + 1)) s i b fault fault-here (one-more fault some)))
     where
       one-more : (number : ℕ) → (number ≡ 0 → ⊥) → 1 ≤ number
       one-more zero some = absurd (some refl)
@@ -98,6 +96,6 @@ module _ {s : List ℕ} {n i : ℕ} {b : SoFar} (so-far : Reads-on s n i b) wher
 
   pub reads-done : {shape : Shape} → n ≤ i → shape .records ≡ n → shape .tasks ≡ b .tasks → Table shape ≡ reading-of s
   reads-done done records-is tasks-is =
-      let none : n - i ≡ 0 = omega arith in
+      let none = none-left n i done in
       let last : i ≡ n = omega (arith, so-far .within) in
       sym (so-far .rest ∙ rw (none, read-none s i b, last, records-is, tasks-is))

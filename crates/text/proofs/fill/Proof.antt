@@ -1,12 +1,12 @@
--- `text::fill` meets its contract. The loop's invariant: the first i bytes of the table are those that the word spells,
+-- `fill` meets its contract. The loop's invariant: the first i bytes of the table are those that the word spells,
 -- and the pairs that are left give the whole answer. The measure is the number of pairs left.
 -- Assumes nothing.
 use mathlib.Core.Path.{sym, _∙_}
 use Prim.Native.Nat.{_-_}
-use Rattle.numbers.proofs.HexLaws.{Filling, fills-too-long, fills-odd, filling-starts, filling-turns, filling-stops, filling-ends}
+use Rattle.text.proofs.HexLaws.{Filling, fills-too-long, fills-odd, filling-starts, filling-turns, filling-stops, filling-ends}
 use borrow.Author.Needs.{needs}
-use Rattle.numbers.proofs.text.fill.Statement.{statement}
-use Rattle.numbers.proofs.text.fill.Tie as tie
+use Rattle.text.proofs.fill.Statement.{statement}
+use Rattle.text.proofs.fill.Tie as tie
 
 abbrev Inv-loop : tie.InvT-loop
 Inv-loop hex table₀ n i₀ table i = Filling hex table₀ table n i

@@ -3,18 +3,19 @@
 use mathlib.Core.Bool.{Bool, true, false, cond}
 use mathlib.Core.List.{List}
 use mathlib.Core.Path.{_≡_, refl, _∙_}
-use Prim.Native.Nat.{ℕ, suc, _+_, _*_, _-_, _/_, _%_, _≤_, _<_}
+use Prim.Native.Nat.{ℕ, _+_, _*_, _-_, _/_, _%_, _≤_, _<_}
 use native.Mathlib.Numerals.{add-one}
 use native.Mathlib.Omega.{arith}
 use lib.Dec.{ltb}
 use lib.ListN.{length, take, set, length-set}
 use lib.Seq.{take-suc-set}
 use borrow.Author.Tests.{lt-ltb, le-ltb, eq-eqb, ne-eqb}
-use Rattle.numbers.specs.declared.text.Byte.the-variants.{Is, Not}
-use Rattle.numbers.specs.declared.text.Filled.the-variants as filled
-use Rattle.numbers.specs.declared.text.Problem.the-variants.{NotHex, TooLong}
-use Rattle.numbers.specs.Digits.{digit-of}
-use Rattle.numbers.specs.Hex.{Fills, pair-of, pair-at, filled-from, filled-of, bytes-of}
+use Rattle.text.specs.declared.Byte.the-variants.{Is, Not}
+use Rattle.text.specs.declared.Filled.the-variants as filled
+use Rattle.text.specs.Digits.{digit-of}
+use Rattle.text.specs.Hex.{Fills, pair-of, pair-at, filled-from, filled-of, bytes-of}
+use Rattle.laws.specs.Sums.{tabulate}
+use Rattle.laws.proofs.Countdown.{all-left, one-less, none-left}
 
 -- two digits
 module _ (a b : ℕ) where
@@ -44,13 +45,13 @@ module _ (a b : ℕ) where
 
 -- a word that fills nothing
 module _ (hex table : List ℕ) where
-  pub fills-too-long : length table < length hex / 2 → Fills hex table table (filled.Not TooLong)
-  unfolding filled-of bytes-of
+  pub fills-too-long : length table < length hex / 2 → Fills hex table table filled.TooLong
+  unfolding filled-of tabulate
   fills-too-long h =
       record { answer = rw (lt-ltb (length table) (length hex / 2) h); inside = omega arith; bytes = refl }
 
-  pub fills-odd : length hex / 2 ≤ length table → (length hex % 2 ≡ 0 → ⊥) → Fills hex table table (filled.Not NotHex)
-  unfolding filled-of bytes-of
+  pub fills-odd : length hex / 2 ≤ length table → (length hex % 2 ≡ 0 → ⊥) → Fills hex table table filled.NotHex
+  unfolding filled-of tabulate
   fills-odd h odd =
       record {
         answer = rw (le-ltb (length table) (length hex / 2) h, ne-eqb (length hex % 2) 0 odd);
@@ -71,51 +72,47 @@ pub filling-starts :
     → length hex / 2 ≤ length table
     → length hex % 2 ≡ 0
     → Filling hex table table (length hex / 2) 0
-unfolding filled-of bytes-of
+unfolding filled-of tabulate
 filling-starts hex table room even =
     record {
       passed = omega arith;
       within = room;
       kept = refl;
-      rest = rw (whole, le-ltb (length table) (length hex / 2) room, eq-eqb (length hex % 2) 0 even);
+      rest =
+          rw (
+            all-left (length hex / 2),
+            le-ltb (length table) (length hex / 2) room,
+            eq-eqb (length hex % 2) 0 even,
+          );
       front = refl;
     }
-  where
-    whole : length hex / 2 - 0 ≡ length hex / 2
-    whole = omega arith
 
 module _ {hex before table : List ℕ} {n i : ℕ} (so-far : Filling hex before table n i) where
-  one-less : i < n → n - i ≡ suc (n - (i + 1))
-  one-less more = omega arith
-
   pub filling-turns : (v : ℕ) → i < n → pair-at hex i ≡ Is v → Filling hex before (set table i v) n (i + 1)
-  unfolding filled-from bytes-of
+  unfolding filled-from tabulate
   filling-turns v more go =
       record {
         passed = omega arith;
         within = rw length-set (so-far .within);
         kept = length-set table i v ∙ so-far .kept;
-        rest = rw (one-less more, go) at (so-far .rest);
+        rest = rw (one-less n i more, go) at (so-far .rest);
         front =
             rw (add-one, take-suc-set table i v (omega (arith, so-far .within)), so-far .front, pair-byte _ _ v go);
       }
 
-  pub filling-stops : i < n → pair-at hex i ≡ Not → Fills hex before table (filled.Not NotHex)
-  unfolding filled-from bytes-of
+  pub filling-stops : i < n → pair-at hex i ≡ Not → Fills hex before table filled.NotHex
+  unfolding filled-from tabulate
   filling-stops more stop =
-      record { answer = rw (one-less more, stop) at (so-far .rest); inside = omega arith; bytes = refl }
+      record { answer = rw (one-less n i more, stop) at (so-far .rest); inside = omega arith; bytes = refl }
 
   pub filling-ends : n ≤ i → Fills hex before table (filled.Bytes n)
   unfolding filled-from
   filling-ends done =
       record {
-        answer = rw (none done, all done) at (so-far .rest);
+        answer = rw (none-left n i done, all done) at (so-far .rest);
         inside = so-far .within;
         bytes = rw (all done) at (so-far .front);
       }
     where
       all : n ≤ i → i ≡ n
       all done = omega (arith, so-far .passed)
-
-      none : n ≤ i → n - i ≡ 0
-      none done = omega arith

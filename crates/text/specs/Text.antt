@@ -6,14 +6,15 @@ use mathlib.Core.List.{List}
 use mathlib.Core.Bool.{Bool, true, not, cond, _||_}
 use lib.Dec.{eqb}
 use lib.ListN.{length, getD}
-use Rattle.numbers.specs.declared.text.Sort.{Sort}
-use Rattle.numbers.specs.declared.text.Sort.the-variants.{Space, Other, LineFeed}
-use Rattle.numbers.specs.declared.text.Word.{Word}
+use Rattle.text.specs.declared.Sort.{Sort}
+use Rattle.text.specs.declared.Sort.the-variants.{Space, Other, LineFeed}
+use Rattle.text.specs.declared.Word.{Word}
 
 -- a space (32) or a carriage return (13)
 abbrev pub space : ℕ → Bool
 space b = eqb b 32 || eqb b 13
 
+-- a line feed is 10
 unfoldable pub of-sort : Sort → ℕ → Bool
 of-sort Space b = space b
 of-sort Other b = not (space b)
@@ -28,6 +29,7 @@ first-from sort line (suc left) i = cond (of-sort sort (getD line i 0)) i (first
 unfoldable pub first-of : Sort → List ℕ → ℕ → ℕ
 first-of sort line at = first-from sort line (length line - at) at
 
+-- what a search from `at` on finds
 pub record First (sort : Sort) (line : List ℕ) (at place : ℕ) : Type 0 where
   pub is : place ≡ first-of sort line at
   pub on : at ≤ place

@@ -1,12 +1,12 @@
--- `text::first_place` meets its contract. The loop's invariant: no place passed has a byte of the sort, so what is left
+-- `first_place` meets its contract. The loop's invariant: no place passed has a byte of the sort, so what is left
 -- to look at gives the whole answer. The measure is what is left of the line.
 -- Assumes nothing.
 use Prim.Native.Nat.{_-_}
 use lib.ListN.{length}
-use Rattle.numbers.proofs.TextLaws.{Looking, looking-starts, looking-hits, looking-turns, looking-ends}
+use Rattle.text.proofs.TextLaws.{Looking, looking-starts, looking-hits, looking-turns, looking-ends}
 use borrow.Author.Needs.{needs}
-use Rattle.numbers.proofs.text.first_place.Statement.{statement}
-use Rattle.numbers.proofs.text.first_place.Tie as tie
+use Rattle.text.proofs.first_place.Statement.{statement}
+use Rattle.text.proofs.first_place.Tie as tie
 
 abbrev Inv-loop : tie.InvT-loop
 Inv-loop sort line at i₀ i = Looking sort line at i

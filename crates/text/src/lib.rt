@@ -2,9 +2,9 @@
 ghost use mathlib.Core.Path.{_≡_};
 ghost use Prim.Native.Nat.{_<_, _≤_};
 ghost use lib.ListN.{length};
-ghost use Rattle.numbers.specs.Digits.{between, digit-of, longer, number-of};
-ghost use Rattle.numbers.specs.Hex.{Fills, pair-of};
-ghost use Rattle.numbers.specs.Text.{Alike, First, Next, space, of-sort};
+ghost use Rattle.text.specs.Digits.{between, digit-of, longer, number-of};
+ghost use Rattle.text.specs.Hex.{Fills, pair-of};
+ghost use Rattle.text.specs.Text.{Alike, First, Next, space, of-sort};
 
 // A word of a line: the place of its first byte, and the place after its last. Where the two are equal no word is left.
 pub struct Word {
@@ -31,20 +31,11 @@ pub enum Byte {
     Not,
 }
 
-// Why a line cannot be read.
-pub enum Problem {
-    NoQuestion,
-    NoNumber,
-    NoTable,
-    NotHex,
-    TooLong,
-    Follows,
-}
-
-// The bytes that a table fills, or why there is none.
+// The bytes that a word of hex digits fills, or why it fills none.
 pub enum Filled {
     Bytes(usize),
-    Not(Problem),
+    NotHex,
+    TooLong,
 }
 
 // A carriage return counts as a space, so a file with CR LF line ends reads as one with LF.
@@ -189,15 +180,15 @@ pub fn fill(hex: &[u8], table: &mut [u8]) -> Filled
 {
     let n = hex.len() / 2;
     if n > table.len() {
-        return Filled::Not(Problem::TooLong);
+        return Filled::TooLong;
     }
     if hex.len() % 2 != 0 {
-        return Filled::Not(Problem::NotHex);
+        return Filled::NotHex;
     }
     let mut i: usize = 0;
     while i < n {
         let Byte::Is(b) = byte_of(hex[2 * i], hex[2 * i + 1]) else {
-            return Filled::Not(Problem::NotHex);
+            return Filled::NotHex;
         };
         table[i] = b;
         i += 1;

@@ -1,10 +1,10 @@
--- `text::digit` meets its contract: one law for each range of digits, and one for the other bytes.
+-- `digit` meets its contract: one law for each range of digits, and one for the other bytes.
 -- Assumes nothing.
 use native.Mathlib.Omega.{arith}
-use Rattle.numbers.proofs.DigitLaws.{between-above, digit-decimal, digit-upper, digit-lower, digit-none}
+use Rattle.text.proofs.DigitLaws.{between-above, digit-decimal, digit-upper, digit-lower, digit-none}
 use borrow.Author.Needs.{needs}
-use Rattle.numbers.proofs.text.digit.Statement.{statement}
-use Rattle.numbers.proofs.text.digit.Tie as tie
+use Rattle.text.proofs.digit.Statement.{statement}
+use Rattle.text.proofs.digit.Tie as tie
 
 sub-result : tie.Need-sub-result
 sub-result c = between-above 48 _ 57 _ (omega arith) (cc)

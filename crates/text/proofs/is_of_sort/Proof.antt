@@ -1,9 +1,9 @@
--- `text::is_of_sort` meets its contract: one law for each sort.
+-- `is_of_sort` meets its contract: one law for each sort.
 -- Assumes nothing.
-use Rattle.numbers.proofs.TextLaws.{sort-space, sort-other, sort-line-feed}
+use Rattle.text.proofs.TextLaws.{sort-space, sort-other, sort-line-feed}
 use borrow.Author.Needs.{needs}
-use Rattle.numbers.proofs.text.is_of_sort.Statement.{statement}
-use Rattle.numbers.proofs.text.is_of_sort.Tie as tie
+use Rattle.text.proofs.is_of_sort.Statement.{statement}
+use Rattle.text.proofs.is_of_sort.Tie as tie
 
 returns : tie.Need-returns
 returns c = sort-space _ _ (search needs) (search needs)

@@ -2,16 +2,16 @@
 -- Assumes nothing.
 use Prim.Native.Nat.{ℕ, zero, suc, _+_, _*_, _/_, _%_, _≤_}
 use mathlib.Core.Path.{_≡_}
-use mathlib.Core.List.{List, [], _∷_, _++_}
+use mathlib.Core.List.{List}
 use mathlib.Core.Bool.{cond}
 use lib.Dec.{ltb, eqb}
 use lib.ListN.{length, getD, take}
-use Rattle.numbers.specs.declared.text.Byte.{Byte}
-use Rattle.numbers.specs.declared.text.Byte.the-variants as byte
-use Rattle.numbers.specs.declared.text.Filled.{Filled}
-use Rattle.numbers.specs.declared.text.Filled.the-variants.{Bytes, Not}
-use Rattle.numbers.specs.declared.text.Problem.the-variants.{NotHex, TooLong}
-use Rattle.numbers.specs.Digits.{digit-of}
+use Rattle.laws.specs.Sums.{tabulate}
+use Rattle.text.specs.declared.Byte.{Byte}
+use Rattle.text.specs.declared.Byte.the-variants as byte
+use Rattle.text.specs.declared.Filled.{Filled}
+use Rattle.text.specs.declared.Filled.the-variants.{Bytes, NotHex, TooLong}
+use Rattle.text.specs.Digits.{digit-of}
 
 -- the byte that two digits spell
 unfoldable pub pair-of : ℕ → ℕ → Byte
@@ -21,12 +21,14 @@ pair-of a b =
     byte.Not
     (cond (ltb 15 (digit-of b)) byte.Not (byte.Is (16 * digit-of a + digit-of b)))
 
+-- pair i of a word's digits
 abbrev pub pair-at : List ℕ → ℕ → Byte
 pair-at hex i = pair-of (getD hex (2 * i) 0) (getD hex (2 * i + 1) 0)
 
+-- what follows a pair, where it spells a byte
 abbrev pub or-not-hex : Byte → Filled → Filled
 or-not-hex (byte.Is b) rest = rest
-or-not-hex byte.Not rest = Not NotHex
+or-not-hex byte.Not rest = NotHex
 
 -- `left` pairs of digits are left, and the next is pair i
 unfoldable pub filled-from : ℕ → List ℕ → ℕ → Filled
@@ -38,21 +40,22 @@ unfoldable pub filled-of : List ℕ → ℕ → Filled
 filled-of hex room =
     cond
     (ltb room (length hex / 2))
-    (Not TooLong)
-    (cond (eqb (length hex % 2) 0) (filled-from (length hex / 2) hex 0) (Not NotHex))
+    TooLong
+    (cond (eqb (length hex % 2) 0) (filled-from (length hex / 2) hex 0) NotHex)
 
+-- the byte of pair i
 abbrev pub byte-at : List ℕ → ℕ → ℕ
 byte-at hex i = 16 * digit-of (getD hex (2 * i) 0) + digit-of (getD hex (2 * i + 1) 0)
 
 -- the first n bytes that a word spells
-unfoldable pub bytes-of : List ℕ → ℕ → List ℕ
-bytes-of hex zero = []
-bytes-of hex (suc n) = bytes-of hex n ++ (byte-at hex n ∷ [])
+abbrev pub bytes-of : List ℕ → ℕ → List ℕ
+bytes-of hex n = tabulate n (byte-at hex)
 
 -- the bytes that were filled
 abbrev pub size-of : Filled → ℕ
 size-of (Bytes n) = n
-size-of (Not why) = 0
+size-of NotHex = 0
+size-of TooLong = 0
 
 -- the word's bytes stand at the start of what was filled
 pub record Fills (hex before after : List ℕ) (filled : Filled) : Type 0 where

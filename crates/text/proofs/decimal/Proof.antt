@@ -1,13 +1,13 @@
--- `text::decimal` meets its contract. The loop's invariant: n and the digits that are left spell what the word spells.
+-- `decimal` meets its contract. The loop's invariant: n and the digits that are left spell what the word spells.
 -- The measure is what is left of the word.
 -- Assumes nothing.
 use Prim.Native.Nat.{_-_}
 use mathlib.Core.Path.{sym, _∙_}
 use lib.ListN.{length}
-use Rattle.numbers.proofs.DigitLaws.{So-far, number-empty, so-far-starts, so-far-stops, so-far-turns, so-far-ends}
+use Rattle.text.proofs.DigitLaws.{So-far, number-empty, so-far-starts, so-far-stops, so-far-turns, so-far-ends}
 use borrow.Author.Needs.{needs}
-use Rattle.numbers.proofs.text.decimal.Statement.{statement}
-use Rattle.numbers.proofs.text.decimal.Tie as tie
+use Rattle.text.proofs.decimal.Statement.{statement}
+use Rattle.text.proofs.decimal.Tie as tie
 
 abbrev Inv-loop : tie.InvT-loop
 Inv-loop w n₀ i₀ n i = So-far w n i

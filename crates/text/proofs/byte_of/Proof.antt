@@ -1,9 +1,9 @@
--- `text::byte_of` meets its contract: one law for each way through its tests.
+-- `byte_of` meets its contract: one law for each way through its tests.
 -- Assumes nothing.
-use Rattle.numbers.proofs.HexLaws.{pair-no-first, pair-no-second, pair-is}
+use Rattle.text.proofs.HexLaws.{pair-no-first, pair-no-second, pair-is}
 use borrow.Author.Needs.{needs}
-use Rattle.numbers.proofs.text.byte_of.Statement.{statement}
-use Rattle.numbers.proofs.text.byte_of.Tie as tie
+use Rattle.text.proofs.byte_of.Statement.{statement}
+use Rattle.text.proofs.byte_of.Tie as tie
 
 returns : tie.Need-returns
 returns c = pair-no-first _ _ (search needs)

@@ -1,10 +1,10 @@
--- `text::with_digit` meets its contract. The test before the sum is one on n alone, so that nothing wraps: n is above
+-- `with_digit` meets its contract. The test before the sum is one on n alone, so that nothing wraps: n is above
 -- (2 ^ 64 - 1 - d) / 10 exactly where 10 * n + d does not fit.
 -- Assumes nothing.
-use Rattle.numbers.proofs.DigitLaws.{longer-no-digit, longer-over, longer-is}
+use Rattle.text.proofs.DigitLaws.{longer-no-digit, longer-over, longer-is}
 use borrow.Author.Needs.{needs}
-use Rattle.numbers.proofs.text.with_digit.Statement.{statement}
-use Rattle.numbers.proofs.text.with_digit.Tie as tie
+use Rattle.text.proofs.with_digit.Statement.{statement}
+use Rattle.text.proofs.with_digit.Tie as tie
 
 returns : tie.Need-returns
 returns c = longer-no-digit _ _ (search needs)

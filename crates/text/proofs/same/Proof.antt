@@ -1,12 +1,12 @@
--- `text::same` meets its contract. The loop's invariant: the two words are as long, and the same before place i.
+-- `same` meets its contract. The loop's invariant: the two words are as long, and the same before place i.
 -- The measure is what is left of the first.
 -- Assumes nothing.
 use Prim.Native.Nat.{_-_}
 use lib.ListN.{length}
-use Rattle.numbers.proofs.TextLaws.{Same-to, alike-length, alike-byte, same-starts, same-turns, alike-whole}
+use Rattle.text.proofs.TextLaws.{Same-to, alike-length, alike-byte, same-starts, same-turns, alike-whole}
 use borrow.Author.Needs.{needs}
-use Rattle.numbers.proofs.text.same.Statement.{statement}
-use Rattle.numbers.proofs.text.same.Tie as tie
+use Rattle.text.proofs.same.Statement.{statement}
+use Rattle.text.proofs.same.Tie as tie
 
 abbrev Inv-loop : tie.InvT-loop
 Inv-loop a b i₀ i = Same-to a b i

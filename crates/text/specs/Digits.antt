@@ -1,13 +1,14 @@
--- The number that a word of decimal digits spells, and the bytes that a word of hex digits spells.
+-- The value of a digit, and the number that a word of decimal digits spells.
 -- Assumes nothing.
 use Prim.Native.Nat.{ℕ, zero, suc, _+_, _*_, _-_, _^_}
 use mathlib.Core.List.{List}
 use mathlib.Core.Bool.{Bool, cond, _&&_}
 use lib.Dec.{ltb, leb, eqb}
 use lib.ListN.{length, getD}
-use Rattle.numbers.specs.declared.text.Number.{Number}
-use Rattle.numbers.specs.declared.text.Number.the-variants.{Is, Not}
+use Rattle.text.specs.declared.Number.{Number}
+use Rattle.text.specs.declared.Number.the-variants.{Is, Not}
 
+-- whether a byte lies in a range
 abbrev pub between : ℕ → ℕ → ℕ → Bool
 between low b high = leb low b && leb b high
 
@@ -20,6 +21,7 @@ digit-of b =
 unfoldable pub longer : ℕ → ℕ → Number
 longer n b = cond (ltb 9 (digit-of b)) Not (cond (ltb (10 * n + digit-of b) (2 ^ 64)) (Is (10 * n + digit-of b)) Not)
 
+-- what follows a number, where there is one
 abbrev pub and-then : Number → (ℕ → Number) → Number
 and-then (Is n) rest = rest n
 and-then Not rest = Not

@@ -3,13 +3,14 @@
 use mathlib.Core.Bool.{Bool, true, false, _&&_}
 use mathlib.Core.List.{List}
 use mathlib.Core.Path.{_≡_, refl}
-use Prim.Native.Nat.{ℕ, suc, _+_, _*_, _-_, _^_, _≤_, _<_}
+use Prim.Native.Nat.{ℕ, _+_, _*_, _-_, _^_, _≤_, _<_}
 use native.Mathlib.Omega.{arith}
 use lib.Dec.{leb}
 use lib.ListN.{length, getD}
 use borrow.Author.Tests.{lt-ltb, le-ltb, leb-true, eq-eqb, ne-eqb}
-use Rattle.numbers.specs.declared.text.Number.the-variants.{Is, Not}
-use Rattle.numbers.specs.Digits.{between, digit-of, longer, number-from, number-of}
+use Rattle.text.specs.declared.Number.the-variants.{Is, Not}
+use Rattle.text.specs.Digits.{between, digit-of, longer, number-from, number-of}
+use Rattle.laws.proofs.Countdown.{all-left, one-less, none-left}
 
 and-left : (x y : Bool) → (x && y) ≡ true → x ≡ true
 and-left true y e = refl
@@ -18,6 +19,7 @@ and-left false y e = e
 pub between-above : (low b high k : ℕ) → k ≤ low → between low b high ≡ true → k ≤ b
 between-above low b high k below e = omega (arith, leb-true low b (and-left (leb low b) (leb b high) e))
 
+-- a byte as a digit
 module _ (b : ℕ) where
   pub digit-decimal : between 48 b 57 ≡ true → b - 48 ≡ digit-of b
   unfolding digit-of
@@ -60,26 +62,19 @@ pub record So-far (word : List ℕ) (n i : ℕ) : Type 0 where
 
 pub so-far-starts : (word : List ℕ) → (length word ≡ 0 → ⊥) → So-far word 0 0
 unfolding number-of
-so-far-starts word some = record { inside = omega arith; rest = rw (whole, ne-eqb (length word) 0 some) }
-  where
-    whole : length word - 0 ≡ length word
-    whole = omega arith
+so-far-starts word some =
+    record { inside = omega arith; rest = rw (all-left (length word), ne-eqb (length word) 0 some) }
 
 module _ {word : List ℕ} {n i : ℕ} (so-far : So-far word n i) where
-  one-less : i < length word → length word - i ≡ suc (length word - (i + 1))
-  one-less more = omega arith
-
   pub so-far-stops : i < length word → longer n (getD word i 0) ≡ Not → Not ≡ number-of word
   unfolding number-from
-  so-far-stops more stop = rw (one-less more, stop) at (so-far .rest)
+  so-far-stops more stop = rw (one-less (length word) i more, stop) at (so-far .rest)
 
   pub so-far-turns : (m : ℕ) → i < length word → longer n (getD word i 0) ≡ Is m → So-far word m (i + 1)
   unfolding number-from
-  so-far-turns m more go = record { inside = omega arith; rest = rw (one-less more, go) at (so-far .rest) }
+  so-far-turns m more go =
+      record { inside = omega arith; rest = rw (one-less (length word) i more, go) at (so-far .rest) }
 
   pub so-far-ends : length word ≤ i → Is n ≡ number-of word
   unfolding number-from
-  so-far-ends done = rw (none done) at (so-far .rest)
-    where
-      none : length word ≤ i → length word - i ≡ 0
-      none done = omega arith
+  so-far-ends done = rw (none-left (length word) i done) at (so-far .rest)

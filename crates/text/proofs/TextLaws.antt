@@ -1,18 +1,20 @@
--- The laws of the search for a byte of a sort: one for each way through the loop.
+-- The laws of the search for a byte of a sort, and of the comparison of two words: one for each way through the loop.
 -- Assumes nothing.
 use mathlib.Core.Bool.{Bool, true, false, not}
 use mathlib.Core.List.{List}
 use mathlib.Core.Path.{_≡_, refl, ap, sym, _∙_}
-use Prim.Native.Nat.{ℕ, suc, _+_, _-_, _≤_, _<_}
+use Prim.Native.Nat.{ℕ, _+_, _-_, _≤_, _<_}
 use native.Mathlib.Numerals.{add-one}
 use native.Mathlib.Omega.{arith}
 use lib.Dec.{eqb}
 use lib.ListN.{length, getD, take}
 use lib.Seq.{take-suc, take-all}
-use Rattle.numbers.specs.declared.text.Sort.{Sort}
-use Rattle.numbers.specs.declared.text.Sort.the-variants.{Space, Other, LineFeed}
-use Rattle.numbers.specs.Text.{Alike, First, space, of-sort, first-from, first-of}
+use Rattle.text.specs.declared.Sort.{Sort}
+use Rattle.text.specs.declared.Sort.the-variants.{Space, Other, LineFeed}
+use Rattle.text.specs.Text.{Alike, First, space, of-sort, first-from, first-of}
+use Rattle.laws.proofs.Countdown.{one-less, none-left}
 
+-- a byte of each sort
 module _ (sort : Sort) (b : ℕ) where
   pub sort-space : {r : Bool} → sort ≡ Space → r ≡ space b → r ≡ of-sort sort b
   unfolding of-sort
@@ -37,26 +39,28 @@ unfolding first-of
 looking-starts sort line at inside = record { on = omega arith; inside = inside; rest = refl }
 
 module _ {sort : Sort} {line : List ℕ} {at i : ℕ} (so-far : Looking sort line at i) where
-  one-less : i < length line → length line - i ≡ suc (length line - (i + 1))
-  one-less more = omega arith
-
   pub looking-hits : i < length line → of-sort sort (getD line i 0) ≡ true → First sort line at i
   unfolding first-from
   looking-hits more hit =
-      record { is = rw (one-less more, hit) at (so-far .rest); on = so-far .on; inside = so-far .inside }
+      record {
+        is = rw (one-less (length line) i more, hit) at (so-far .rest);
+        on = so-far .on;
+        inside = so-far .inside;
+      }
 
   pub looking-turns : i < length line → of-sort sort (getD line i 0) ≡ false → Looking sort line at (i + 1)
   unfolding first-from
   looking-turns more miss =
-      record { on = omega (arith, so-far .on); inside = omega arith; rest = rw (one-less more, miss) at (so-far .rest) }
+      record {
+        on = omega (arith, so-far .on);
+        inside = omega arith;
+        rest = rw (one-less (length line) i more, miss) at (so-far .rest);
+      }
 
   pub looking-ends : length line ≤ i → First sort line at i
   unfolding first-from
   looking-ends done =
-      record { is = rw (none done) at (so-far .rest); on = so-far .on; inside = so-far .inside }
-    where
-      none : length line ≤ i → length line - i ≡ 0
-      none done = omega arith
+      record { is = rw (none-left (length line) i done) at (so-far .rest); on = so-far .on; inside = so-far .inside }
 
 -- the bytes before place i are the same
 pub record Same-to (a b : List ℕ) (i : ℕ) : Type 0 where

@@ -1,0 +1,3 @@
+pub mod Digits
+pub mod Hex
+pub mod Text

@@ -66,7 +66,8 @@ right-is row h =
 all-right : T (every right named)
 unfolding named A B right by-walk quick is-byte every same-said same-answer same-verdict same-list same-int
     demand-asked reading-of read-from record-of records-before records-of task-of horizon walk overloads closes
-    overloaded-at fits-at starts lowest all-demands all-work counted offset frame sum greatest tabulate least-from first-least
+    overloaded-at fits-at starts lowest all-demands all-work counted offset frame sum greatest tabulate
+    least-from first-least
 all-right = tt
 
 -- K1, K2, K3, K4's verdict, K6, K7

@@ -6,11 +6,12 @@ use Prim.Native.Nat.{ℕ, zero, suc, _+_, _-_, _≤_, _<_}
 use native.Mathlib.Nat.{zero-add, le-refl}
 use native.Mathlib.Omega.{arith}
 use lib.Dec.{leb, ltb}
+use lib.IntN.{pos, subℕ}
 use Rattle.laws.specs.Sums.{sum, only, greatest}
 use Rattle.laws.proofs.Cases.{lt-or-le}
 use Rattle.laws.proofs.SumLaws.{gate, sum-mono, sum-longer, sum-+, sum-none, greatest-ge, greatest-le, greatest-mono}
 use Rattle.model.specs.Task.{Task, Table, Proper, ProperTable}
-use Rattle.model.specs.Demand.{frame, offset, part, counted, most, demand, work, all-demands, all-work}
+use Rattle.model.specs.Demand.{frame, offset, part, counted, most, demand, work, all-demands, all-work, margin}
 use Rattle.model.proofs.CyclicLaws.{Moves, frame-lt, counted-zero, counted-on}
 
 -- a proper task moves under both reaches
@@ -132,3 +133,7 @@ unfolding all-demands
 all-demands-zero {table} good =
     sum-none (table .tasks) (λ k. demand (table .task k) 0)
     (λ k inside. most-zero (demand-moves (good .proper k inside)))
+
+-- "the margin at 0 is 0"
+pub margin-zero : {table : Table} → ProperTable table → margin table 0 ≡ pos 0
+margin-zero good = ap (subℕ 0) (all-demands-zero good)

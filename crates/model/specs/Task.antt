@@ -14,7 +14,7 @@ pub record Table : Type 0 where
   pub tasks : ℕ
   pub task : ℕ → Task
 
--- "E, D and P are each 1 to 65,535 .. 16 frames in a task."
+-- "E, D and P are each 1 to 65,535 .. 16 frames in a task": what the laws use of it
 pub record Proper (task : Task) : Type 0 where
   pub some : 1 ≤ task .count
   pub few : task .count ≤ 16

@@ -88,7 +88,8 @@ module _ {s : List ℕ} {n i : ℕ} {b : SoFar} (so-far : Reads-on s n i b) wher
       (fault ≡ 0 → ⊥) → Refused (record { number = fault; index = i }) ≡ reading-of s
   reads-refused {x} {fault} more here fault-is some =
       let fault-here : fault-of b (record-of s i) ≡ fault = sym (fault-is ∙ ap (fault-of b) here) in
-      sym (so-far .rest ∙ rw (one-less n i more) (read-stopped (n - (i + 1)) s i b fault fault-here (one-more fault some)))
+      let stopped = read-stopped (n - (i + 1)) s i b fault fault-here (one-more fault some) in
+      sym (so-far .rest ∙ rw (one-less n i more) stopped)
     where
       one-more : (number : ℕ) → (number ≡ 0 → ⊥) → 1 ≤ number
       one-more zero some = absurd (some refl)

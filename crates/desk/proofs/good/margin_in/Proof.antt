@@ -32,10 +32,11 @@ returns-2 : tie.Need-returns-2
 unfolding horizon
 returns-2 c =
     let asked = c .before in
-    let entry = asked .before .before .before .before in
-    let made = signed-kept (c .spare .result) (c .spare .ok) ∙ c .spare .ensures
-    ∙ ap (subℕ (entry .args .t)) (demands-are (asked .total .ensures)) in
-    ap spare-of (margin-answered _ _ (entry .pre) (entry .args .t) (search needs) made)
+    let is-near = asked .before .before in
+    let entry = is-near .before .before in
+    let held = signed-kept (c .spare .result) (c .spare .ok) in
+    let is = held ∙ c .spare .ensures ∙ ap (subℕ (entry .args .t)) (demands-are (asked .total .ensures)) in
+    ap spare-of (margin-answered _ _ (entry .pre) (entry .args .t) (search needs) is)
 
 pub margin-in-spec : {M : Type 1} → statement M
 margin-in-spec =

@@ -16,17 +16,18 @@ use Rattle.desk.proofs.good.sum_in.Tie as tie
 returns : tie.Need-returns
 returns c =
     let entry = c .before .before .before in
-    ap Refused (c .refuse .ensures) ∙ ap amount-of
-    (no-such-task _ _ (entry .pre) (most-by (entry .args .due)) (entry .args .task) (entry .args .t) (search needs))
+    ap Refused (c .refuse .ensures)
+    ∙ ap amount-of (no-such-task _ _ (entry .pre) (most-by (entry .args .due)) (entry .args .task) _ (search needs))
 
 -- t is too far
 returns-2 : tie.Need-returns-2
 unfolding horizon
 returns-2 c =
-    let entry = c .before .before .before .before in
-    ap Refused (c .refuse2 .ensures) ∙ ap amount-of
-    (task-too-far _ _ (entry .pre) (most-by (entry .args .due)) (entry .args .task) (entry .args .t)
-    (search needs) (search needs))
+    let is-task = c .before .before in
+    let entry = is-task .before .before in
+    let by = most-by (entry .args .due) in
+    ap Refused (c .refuse2 .ensures)
+    ∙ ap amount-of (task-too-far _ _ (entry .pre) by (entry .args .task) (entry .args .t) (search needs) (search needs))
 
 make-plan-requires : tie.Need-make-plan-requires
 make-plan-requires c κs = plan-room _ _ (c .before .before .before .pre)
@@ -34,16 +35,19 @@ make-plan-requires c κs = plan-room _ _ (c .before .before .before .pre)
 peak-of-requires : tie.Need-peak-of-requires
 unfolding horizon
 peak-of-requires c κs =
-    let entry = c .before .before .before .before in
+    let is-near = c .before in
+    let entry = is-near .before .before .before in
     let tasks = plan-tasks _ _ (entry .pre) (c .make-plan .ensures) in
     (ready-read _ _ (entry .pre) (c .make-plan .ensures), omega arith, omega arith)
 
 returns-3 : tie.Need-returns-3
 unfolding horizon
 returns-3 c =
-    let entry = c .before .before .before .before .before in
-    ap amount-of (task-answered _ _ (entry .pre) (most-by (entry .args .due)) (entry .args .task) (entry .args .t)
-    (search needs) (search needs) (c .peak-of .ensures .sum-is))
+    let is-near = c .before .before in
+    let entry = is-near .before .before .before in
+    let by = most-by (entry .args .due) in
+    let sum-is = c .peak-of .ensures .sum-is in
+    ap amount-of (task-answered _ _ (entry .pre) by (entry .args .task) (entry .args .t) (search needs) (search needs) sum-is)
 
 pub sum-in-spec : {M : Type 1} → statement M
 sum-in-spec =

@@ -34,18 +34,20 @@ following-requires c κs = omega arith
 
 loop-less : tie.Need-loop-less Inv-loop μ-loop
 loop-less c =
-    let read = c .before .before .before .before in
+    let room = c .before .before .before in
+    let read = room .before in
     let at-loop = read .before .before in
-    counting-less (at-loop .before .before .pre .0) (at-loop .loop .inv) (read .record-at .result) (search needs)
-    (search needs) (search needs)
+    let stands = at-loop .before .before .pre .0 in
+    counting-less stands (at-loop .loop .inv) (read .record-at .result) (search needs) (search needs) (search needs)
 
 loop-again : tie.Need-loop-again Inv-loop μ-loop
 loop-again c =
     let room = c .before .before .before in
     let read = room .before in
     let at-loop = read .before .before in
-    counting-on (at-loop .before .before .pre .0) (at-loop .loop .inv)
-    (read .record-at .result) {gain = c .before .before .gain .result} (room .reach .result) (search needs)
+    let stands = at-loop .before .before .pre .0 in
+    let gain = c .before .before .gain .result in
+    counting-on stands (at-loop .loop .inv) (read .record-at .result) {gain = gain} (room .reach .result) (search needs)
 
 returns : tie.Need-returns Inv-loop μ-loop
 returns c = counting-end (search needs) (c .before .loop .inv) (search needs)

@@ -31,39 +31,44 @@ returns c =
     let asked = c .before .before in
     let at-loop = asked .before .before in
     let demands = demands-are (asked .total .ensures) in
-    c .overload-at .ensures ∙ ap judged-of
-    (walking-over (good at-loop) _ (at-loop .loop .inv) (search needs) (omega arith))
+    c .overload-at .ensures
+    ∙ ap judged-of (walking-over (good at-loop) _ (at-loop .loop .inv) (search needs) (omega arith))
+
+-- where what t asks was summed, of a place where its work was summed
+asked-at : tie.After-total2 Inv-loop μ-loop → tie.After-total Inv-loop μ-loop
+asked-at c = let lowered = c .before .before in lowered .before .before
 
 -- what t brings where it is no overload
 tried : (c : tie.After-total2 Inv-loop μ-loop) →
-    let asked = c .before .before .before .before in
+    let asked = asked-at c in
     let at-loop = asked .before .before in
-    Tried (table-of (at-loop .before .before .args .s .now)) (at-loop .before .before .args .limit) (at-loop .loop .t)
-    (at-loop .loop .low) (at-loop .loop .at)
+    let entry = at-loop .before .before .args in
+    Tried (table-of (entry .s .now)) (entry .limit) (at-loop .loop .t) (at-loop .loop .low) (at-loop .loop .at)
     (asked .total .result) (c .before .lesser .result) (c .before .before .first-low .result)
+unfolding asked-at
 tried c =
-    let asked = c .before .before .before .before in
     record {
       more = search needs;
-      asked = demands-are (asked .total .ensures);
+      asked = demands-are (asked-at c .total .ensures);
       calm = search needs;
-      low-is =
-          search needs;
+      low-is = search needs;
       at-is = search needs;
     }
 
 -- t closes
 returns-2 : tie.Need-returns-2 Inv-loop μ-loop
+unfolding asked-at
 returns-2 c =
     let worked = c .before .before in
-    let at-loop = worked .before .before .before .before .before .before in
+    let at-loop = asked-at worked .before .before in
     let work = work-is (worked .total2 .ensures) in
     c .fit-in .ensures ∙ ap judged-of (walking-fits (good at-loop) _ (at-loop .loop .inv) (tried worked) (omega arith))
 
 loop-again : tie.Need-loop-again Inv-loop μ-loop
+unfolding asked-at
 loop-again c =
     let worked = c .before in
-    let at-loop = worked .before .before .before .before .before .before in
+    let at-loop = asked-at worked .before .before in
     let work = work-is (worked .total2 .ensures) in
     walking-on (good at-loop) _ (at-loop .loop .inv) (tried worked) (omega arith)
 

@@ -20,7 +20,8 @@ cast-result c =
 
 returns : tie.Need-returns
 returns c =
-    let entry = c .before .before .before .before in
+    let known = c .before .before .before in
+    let entry = known .before in
     let tasks = ready-tasks (entry .pre .0) in
     start-inside (table-of (entry .args .s .now)) (entry .args .t) (entry .args .k) (omega arith) (c .peak-of .ensures)
 

@@ -7,14 +7,14 @@ use Prim.Native.Nat.{ℕ, zero, suc, _+_, _-_, _≤_, _<_}
 use native.Mathlib.Nat.{le-refl}
 use native.Mathlib.Omega.{arith}
 use lib.Dec.{leb}
-use borrow.Author.Tests.{lt-leb}
+use borrow.Author.Tests.{le-leb, lt-leb}
 use Rattle.laws.specs.Sums.{sum, only}
 use Rattle.laws.proofs.Cases.{lt-or-le}
 use Rattle.laws.proofs.SumLaws.{gate, sum-zero, sum-head, sum-cong, greatest-ge}
 use Rattle.model.specs.Task.{Task}
-use Rattle.model.specs.Demand.{frame, counted, most}
+use Rattle.model.specs.Demand.{frame, offset, part, counted, most}
 use Rattle.model.specs.Run.{Run, asked}
-use Rattle.model.proofs.CyclicLaws.{Moves, frame-lt, frame-none, frame-on, counted-on}
+use Rattle.model.proofs.CyclicLaws.{Moves, frame-lt, frame-none, frame-on, counted-turns, counted-on}
 use Rattle.model.proofs.DemandLaws.{counted-mono}
 
 both-most : (x y : Bool) (e : ℕ) → only (x && y) e ≤ only y e
@@ -101,3 +101,22 @@ module _ {task : Task} {reach : ℕ → ℕ} (moves : Moves task reach) (a b : �
               greatest-ge (counted task reach (b - a)) (task .count) s inside,
             )
       ]
+
+-- the earliest arrivals are a run, and what they ask from 0 to t is the cyclic sum: the bound is met
+pub earliest-run : (task : Task) (s m : ℕ) → Run task s m (offset task s)
+unfolding offset
+earliest-run task s m n h = le-refl (offset task s n + task .P (frame task s n))
+
+pub earliest-asked : {task : Task} {reach : ℕ → ℕ} → Moves task reach → (s m t : ℕ) → t ≤ m
+    → asked task reach s m (offset task s) 0 t ≡ counted task reach t s
+unfolding asked
+earliest-asked {task} {reach} moves s m t enough =
+    sum-cong m (λ n. only (leb 0 (offset task s n) && due n) (task .E (frame task s n))) (part task reach t s)
+    (λ n h. from-zero n)
+    ∙ counted-turns moves m t s enough
+  where
+    due : ℕ → Bool
+    due n = leb (offset task s n + reach (frame task s n)) t
+
+    from-zero : (n : ℕ) → only (leb 0 (offset task s n) && due n) (task .E (frame task s n)) ≡ part task reach t s n
+    from-zero n = rw (le-leb 0 (offset task s n) (omega arith))

@@ -1,8 +1,7 @@
 -- The ways through a question: the table's refusal, the refusals of the question, the answer.
 -- Assumes nothing.
 use Prim.Native.Nat.{ℕ, _*_, _≤_, _<_}
-use mathlib.Core.Bool.{Bool, true, false}
-use mathlib.Core.Path.{_≡_, refl, sym, ap, _∙_}
+use mathlib.Core.Path.{_≡_, sym, ap, _∙_}
 use mathlib.Core.List.{List}
 use native.Mathlib.Omega.{arith}
 use lib.IntN.{ℤ}
@@ -21,14 +20,8 @@ use Rattle.table.specs.Bytes.{size}
 use Rattle.table.specs.TableOf.{table-of, plan-of}
 use Rattle.table.specs.declared.plan.Plan.{Plan}
 use Rattle.table.proofs.Exact.{shaped}
-use Rattle.sums.specs.Sized.{ceiling}
 use Rattle.sums.proofs.ReadyLaws.{ready-read, ready-tasks}
 use Rattle.desk.specs.Questions.{after-reading, one-task, margin-asked, window-asked, verdict-asked}
-
--- the sums are proved for every t that the desk answers
-pub horizon-low : horizon ≤ ceiling
-unfolding horizon
-horizon-low = omega arith
 
 -- the table's refusal is passed on, whatever else would be said
 pub passed-on : {A : Type 0} (s : List ℕ) (said : Answer A) {r : Reading} {y no : Refusal} → r ≡ reading-of s

@@ -1,8 +1,8 @@
 -- Each named number is what the rules give: one computed test of the whole table, and one law that turns it into that.
 -- The verdict is computed by the walk that stops at the closing window, and carried over by its law.
 -- Assumes nothing.
-use mathlib.Core.Bool.{Bool, true, false, _&&_}
-use mathlib.Core.Path.{_≡_, refl, sym, _∙_, ap}
+use mathlib.Core.Bool.{Bool, _&&_}
+use mathlib.Core.Path.{_≡_, refl, sym, _∙_}
 use mathlib.Core.List.{List, [], _∷_}
 use Prim.Native.Nat.{ℕ, zero, suc, _<_}
 use native.Mathlib.Omega.{arith}
@@ -12,13 +12,13 @@ use Rattle.laws.specs.Sums.{sum, greatest, tabulate}
 use Rattle.laws.specs.Search.{least-from, first-least}
 use Rattle.model.specs.Demand.{frame, offset, counted, lowest, all-demands, all-work}
 use Rattle.model.specs.Verdict.{horizon, closes, overloads, starts, overloaded-at, fits-at}
-use Rattle.model.specs.Answer.{Answer, answered}
+use Rattle.model.specs.Answer.{answered}
 use Rattle.model.proofs.WalkLaws.{walk, walk-is}
 use Rattle.table.specs.declared.reader.Reading.{Reading}
 use Rattle.table.specs.declared.reader.Reading.the-variants.{Table, Refused}
 use Rattle.table.specs.Bytes.{record-of}
 use Rattle.table.specs.Reader.{read-from, reading-of}
-use Rattle.table.specs.TableOf.{records-before, records-of, task-of, table-of}
+use Rattle.table.specs.TableOf.{records-before, records-of, task-of}
 use Rattle.table.proofs.Exact.{read-good}
 use Rattle.table.proofs.TaskLaws.{proper-table}
 use Rattle.desk.specs.Questions.{on-table, demand-asked, verdict-asked}

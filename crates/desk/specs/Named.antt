@@ -1,8 +1,8 @@
 -- The named numbers of document 01, "Numbers to hold it to": a row for each, a question on bytes and its answer.
 -- Assumes nothing.
-use mathlib.Core.List.{List, [], _∷_, _++_, map}
+use mathlib.Core.List.{List, [], _∷_, _++_}
 use Prim.Native.Nat.{ℕ}
-use lib.IntN.{ℤ, pos, negsuc}
+use lib.IntN.{pos, negsuc}
 use lib.ListN.{replicate}
 use Rattle.model.specs.Verdict.{Verdict, overloaded, fits}
 use Rattle.model.specs.Answer.{Answer, answered}

@@ -14,7 +14,6 @@ use Rattle.desk.specs.declared.Spare.{Spare}
 use Rattle.desk.specs.declared.Spare.the-variants as spare
 use Rattle.desk.specs.declared.Window.{Window}
 use Rattle.desk.specs.declared.Window.the-variants as window
-use Rattle.desk.specs.declared.Judgement.{Judgement}
 use Rattle.desk.specs.declared.Judgement.the-variants as judgement
 use Rattle.desk.specs.declared.Judged.{Judged}
 

@@ -1,7 +1,7 @@
 -- The greatest value and the lowest place that has it, as a loop keeps them.
 -- Assumes nothing.
-use mathlib.Core.Bool.{Bool, true, false, cond}
-use mathlib.Core.Path.{_≡_, refl, sym, _∙_, ap, ap₂}
+use mathlib.Core.Bool.{cond}
+use mathlib.Core.Path.{_≡_, refl, sym, _∙_, ap}
 use mathlib.Core.Logic.{_⊎_, inl, inr}
 use native.Mathlib.Nat.{le-of-lt, max-eq-left, max-eq-right}
 use Prim.Native.Nat.{ℕ, zero, suc, _+_, _≤_, _<_, max}

@@ -1,7 +1,7 @@
 -- Laws of the search for the least number that passes.
 -- Assumes nothing.
 use mathlib.Core.Bool.{Bool, true, false}
-use mathlib.Core.Path.{_≡_, refl, sym, _∙_, ap, subst}
+use mathlib.Core.Path.{_≡_, refl, sym, _∙_, ap}
 use mathlib.Core.Logic.{inl, inr}
 use Prim.Native.Nat.{ℕ, zero, suc, _+_, _-_, _≤_, _<_}
 use native.Mathlib.Nat.{le-refl}
@@ -97,12 +97,6 @@ module _ (test : ℕ → Bool) where
           rw (least-hit many start e)
           (record { low = le-refl start; high = omega arith; passes = e; first = λ j h k. absurd (omega arith) })
       which false e rest = rw (least-miss many start e) (longer (least-from test many (suc start)) e rest)
-
-  pub least-found : (many start i : ℕ) → least-from test many start ≡ at i → Least test many start i
-  least-found many start i e = subst (Right test many start) e (least-right many start)
-
-  pub none-found : (many start : ℕ) → least-from test many start ≡ nowhere → None test many start
-  none-found many start e = subst (Right test many start) e (least-right many start)
 
 -- ---- a loop that tries i from 1 up to a limit: what is left to try gives the whole
 

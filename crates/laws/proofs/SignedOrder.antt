@@ -3,9 +3,9 @@
 use mathlib.Core.Bool.{Bool, true, false, not}
 use mathlib.Core.Path.{_≡_, refl, sym, subst}
 use native.Mathlib.Nat.{le-of-lt}
-use lib.Dec.{T, leb, ltb, le→leb, ltb→lt}
+use lib.Dec.{T, le→leb, ltb→lt}
 use lib.IntN.{ℤ, pos, negsuc}
-use lib.Signed.{ltZ, leZ, _≤ℤ_, _<ℤ_, ltZ-yes, ltZ-no, leZ-yes, clashℤ}
+use lib.Signed.{ltZ, _≤ℤ_, _<ℤ_, ltZ-yes, ltZ-no, leZ-yes, clashℤ}
 
 pub lt-test : (a b : ℤ) → ltZ a b ≡ true → a <ℤ b
 lt-test a b e = ltZ-yes (subst T (sym e) tt)

@@ -1,13 +1,13 @@
 -- Laws of demand and work: they never fall, and a longer interval asks no more than its two parts.
 -- Assumes nothing.
-use mathlib.Core.Path.{_≡_, refl, sym, _∙_, ap}
+use mathlib.Core.Path.{_≡_, ap}
 use mathlib.Core.Logic.{inl, inr}
 use Prim.Native.Nat.{ℕ, zero, suc, _+_, _-_, _≤_, _<_}
 use native.Mathlib.Nat.{zero-add, le-refl}
 use native.Mathlib.Omega.{arith}
 use lib.Dec.{leb, ltb}
 use lib.IntN.{pos, subℕ}
-use Rattle.laws.specs.Sums.{sum, only, greatest}
+use Rattle.laws.specs.Sums.{only}
 use Rattle.laws.proofs.Cases.{lt-or-le}
 use Rattle.laws.proofs.SumLaws.{gate, sum-mono, sum-longer, sum-+, sum-none, greatest-ge, greatest-le, greatest-mono}
 use Rattle.model.specs.Task.{Task, Table, Proper, ProperTable}

@@ -1,16 +1,13 @@
 -- The start frames: each is the lowest that gives its task's demand, and there is one such list only.
 -- Assumes nothing.
-use mathlib.Core.Bool.{Bool, cond}
-use mathlib.Core.Path.{_≡_, refl, sym, _∙_, ap, subst}
+use mathlib.Core.Path.{_≡_, sym, _∙_, subst}
 use mathlib.Core.List.{List}
 use mathlib.Core.Logic.{inl, inr}
 use Prim.Native.Nat.{ℕ, _≤_, _<_}
 use native.Mathlib.Omega.{arith}
-use lib.Dec.{ltb}
 use lib.ListN.{length, getD}
 use lib.Seq.{ext-getD}
 use borrow.Author.Tests.{lt-ltb, le-ltb}
-use Rattle.laws.specs.Sums.{greatest}
 use Rattle.laws.proofs.Cases.{lt-or-le}
 use Rattle.laws.proofs.Fill.{tabulate-length, tabulate-at}
 use Rattle.laws.proofs.PeakLaws.{Peaked, peaked-lowest, peak-of}

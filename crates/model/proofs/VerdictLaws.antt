@@ -1,19 +1,17 @@
 -- The verdict says what the document says, and whatever says that is the verdict.
 -- Assumes nothing.
-use mathlib.Core.Bool.{Bool, true, false}
-use mathlib.Core.Path.{_≡_, refl, sym, _∙_, ap, ap₂, subst}
+use mathlib.Core.Path.{_≡_, refl, sym, _∙_, ap, ap₂}
 use mathlib.Core.List.{List}
-use Prim.Native.Nat.{ℕ, zero, suc, _+_, _≤_, _<_}
+use Prim.Native.Nat.{ℕ, zero, suc, _≤_}
 use native.Mathlib.Omega.{arith}
-use lib.IntN.{ℤ, pos}
-use lib.Signed.{_≤ℤ_, _<ℤ_}
-use Rattle.laws.specs.Search.{Found, at, nowhere, least-from, first-least}
+use lib.IntN.{ℤ}
+use Rattle.laws.specs.Search.{Found, at, nowhere, first-least}
 use Rattle.laws.proofs.SearchLaws.{Least, None, Right, least-right, least-is, none-is}
 use Rattle.laws.proofs.LeastLaws.{First-least, first-least-right, first-least-one-only}
 use Rattle.model.specs.Task.{Table, ProperTable}
-use Rattle.model.specs.Demand.{margin, all-work}
-use Rattle.model.specs.Verdict.{closes, closing-window, overloads, first-overload, starts, Verdict, overloaded, fits, undecided, overloaded-at, fits-at, judged, verdict}
-use Rattle.model.specs.Meaning.{Calm, Open, Overloaded, Fits, Undecided, Means}
+use Rattle.model.specs.Demand.{margin}
+use Rattle.model.specs.Verdict.{closes, closing-window, overloads, first-overload, Verdict, overloaded, fits, undecided, overloaded-at, fits-at, judged, verdict}
+use Rattle.model.specs.Meaning.{Calm, Overloaded, Fits, Undecided, Means}
 use Rattle.model.proofs.ClosingLaws.{below-zero, not-below, is-below, is-not-below, closes-yes, closes-no, does-close, stays-open}
 use Rattle.model.proofs.StartLaws.{starts-sixteen, starts-each, starts-past, starts-only}
 

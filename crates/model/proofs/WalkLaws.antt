@@ -2,13 +2,12 @@
 -- Assumes nothing.
 use mathlib.Core.Bool.{Bool, true, false}
 use mathlib.Core.Path.{_≡_, refl, sym, _∙_, ap, ap₂}
-use Prim.Native.Nat.{ℕ, zero, suc, _≤_, _<_}
+use Prim.Native.Nat.{ℕ, zero, suc, _≤_}
 use native.Mathlib.Nat.{le-refl}
 use native.Mathlib.Omega.{arith}
 use Rattle.laws.specs.Search.{Found, least-from}
 use Rattle.laws.proofs.SearchLaws.{None, least-hit, least-miss, none-is}
 use Rattle.model.specs.Task.{Table, ProperTable}
-use Rattle.model.specs.Demand.{all-demands}
 use Rattle.model.specs.Verdict.{closes, closing-window, overloads, first-overload, Verdict, overloaded-at, fits-at, undecided, judged, verdict}
 use Rattle.model.proofs.ClosingLaws.{overloads-no, no-overload, does-close, Calm-below, calm-one, calm-more, calm-always}
 

@@ -1,7 +1,7 @@
 -- The starts of one task, tried in order: what the loop keeps, and a law for its start, its turn and its end.
 -- Assumes nothing.
 use mathlib.Core.Bool.{Bool}
-use mathlib.Core.Path.{_≡_, sym, _∙_, subst}
+use mathlib.Core.Path.{_≡_, subst}
 use Prim.Native.Nat.{ℕ, _+_, _*_, _≤_, _<_}
 use native.Mathlib.Omega.{arith}
 use Rattle.laws.proofs.PeakLaws.{Peaked, peaked-none, peaked-turn}

@@ -3,9 +3,9 @@
 use mathlib.Core.Bool.{Bool}
 use mathlib.Core.Path.{_≡_, sym, subst}
 use mathlib.Core.List.{List}
-use Prim.Native.Nat.{ℕ, _+_, _-_, _*_, _≤_, _<_}
+use Prim.Native.Nat.{ℕ, _+_, _-_, _≤_, _<_}
 use native.Mathlib.Omega.{arith}
-use lib.ListN.{length, getD}
+use lib.ListN.{getD}
 use mir.Syntax.{w8}
 use mir.Val.{Fits}
 use Rattle.model.specs.Task.{Task, Proper, ProperTable}

@@ -7,15 +7,11 @@ use lib.ListN.{length, getD}
 use native.Mathlib.Omega.{arith}
 use Rattle.laws.proofs.Fill.{tabulate-length, tabulate-at}
 use Rattle.table.specs.declared.plan.Plan.{Plan}
-use Rattle.table.specs.declared.reader.Shape.{Shape}
-use Rattle.table.specs.declared.reader.Reading.the-variants.{Table}
 use Rattle.table.specs.Bytes.{size, records}
-use Rattle.table.specs.Reader.{reading-of}
 use Rattle.table.specs.WellFormed.{WellFormed}
 use Rattle.table.specs.TableOf.{records-before, records-of, task-of, table-of, plan-of}
 use Rattle.table.proofs.Rising.{few-tasks}
 use Rattle.table.proofs.Runs.{before-next, run-within, run-some, run-few}
-use Rattle.table.proofs.Exact.{shaped}
 
 -- task k stands from record `first` up to record `next`
 pub record Planned (s : List ℕ) (k first next : ℕ) : Type 0 where
@@ -75,9 +71,3 @@ pub plans : {s : List ℕ} {p : Plan} → WellFormed s → p ≡ plan-of s (reco
 plans {s} well is =
     let stands = plan-stands well (table-of s .tasks) in
     rw is (record { tasks-are = plan-tasks s _ _; long = plan-long s _ _; stands = stands })
-
--- in the words of a caller that has read the table
-pub plans-read : (s : List ℕ) (t : Shape) {p : Plan} → reading-of s ≡ Table t → p ≡ plan-of s (t .records) (t .tasks) →
-    Plans s p
-plans-read s t read is =
-    let shape = shaped s t read in plans (shape .well) (rw (shape .records-are, shape .tasks-are) at is)

@@ -1,7 +1,6 @@
 -- `margin_in` meets its contract: 7, or t minus the sum of the demands.
 -- Assumes nothing.
 use mathlib.Core.Path.{ap, _∙_}
-use native.Mathlib.Omega.{arith}
 use borrow.Author.Needs.{needs}
 use lib.IntN.{subℕ}
 use Rattle.laws.proofs.SignedLaws.{signed-kept}

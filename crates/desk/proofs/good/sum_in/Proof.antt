@@ -8,7 +8,7 @@ use Rattle.sums.specs.Sized.{most-by}
 use Rattle.sums.proofs.ReadyLaws.{ready-read}
 use Rattle.desk.specs.Written.{amount-of}
 use Rattle.desk.specs.declared.Amount.the-variants.{Refused}
-use Rattle.desk.proofs.AskLaws.{horizon-low, plan-room, plan-tasks, no-such-task, task-too-far, task-answered}
+use Rattle.desk.proofs.AskLaws.{plan-room, plan-tasks, no-such-task, task-too-far, task-answered}
 use Rattle.desk.proofs.good.sum_in.Statement.{statement}
 use Rattle.desk.proofs.good.sum_in.Tie as tie
 

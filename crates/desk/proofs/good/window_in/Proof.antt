@@ -1,7 +1,6 @@
 -- `window_in` meets its contract: the search up to the horizon.
 -- Assumes nothing.
 use mathlib.Core.Path.{ap, _∙_}
-use native.Mathlib.Omega.{arith}
 use borrow.Author.Needs.{needs}
 use Rattle.model.specs.Verdict.{horizon}
 use Rattle.sums.proofs.ReadyLaws.{ready-read}

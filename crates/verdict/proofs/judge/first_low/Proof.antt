@@ -1,6 +1,5 @@
 -- `first_low` meets its contract: only a smaller margin moves the place.
 -- Assumes nothing.
-use borrow.Author.Needs.{needs}
 use borrow.Author.Tests.{lt-ltb, le-ltb}
 use Rattle.verdict.proofs.judge.first_low.Statement.{statement}
 use Rattle.verdict.proofs.judge.first_low.Tie as tie

@@ -9,7 +9,7 @@ ghost use Rattle.sums.specs.Sized.{Stands, Counted};
 
 // What a frame must have room for besides its offset: its D for demand; for work one tick.
 fn reach(due: bool, d: u16) -> u64
-    ensures { λ r. ⌜ (r ≡ cond due d 1) × (r < 65536) ⌝ }
+    ensures { λ r. ⌜ r ≡ cond due d 1 ⌝ }
 {
     if due { d as u64 } else { 1 }
 }

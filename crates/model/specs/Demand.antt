@@ -20,8 +20,8 @@ offset task s (suc n) = offset task s n + task .P (frame task s n)
 abbrev pub part : Task → (ℕ → ℕ) → ℕ → ℕ → ℕ → ℕ
 part task reach t s n = only (leb (offset task s n + reach (frame task s n)) t) (task .E (frame task s n))
 
--- The cyclic sum from frame s: E of every frame whose offset plus reach is at most t. "Every frame that fits counts, also
--- one after a frame that doesn't; no ordering of deadlines is presumed."
+-- The cyclic sum from frame s: E of every frame whose offset plus reach is at most t.
+-- "Every frame that fits counts, also one after a frame that doesn't; no ordering of deadlines is presumed."
 -- Turns 0 to t are all that can count: each P is at least 1, so the frame of turn n comes at n or later.
 unfoldable pub counted : Task → (ℕ → ℕ) → ℕ → ℕ → ℕ
 counted task reach t s = sum (suc t) (part task reach t s)

@@ -46,8 +46,9 @@ returns-3 c =
     let is-near = c .before .before in
     let entry = is-near .before .before .before in
     let by = most-by (entry .args .due) in
-    let is = c .peak-of .ensures .sum-is in
-    ap amount-of (task-answered _ _ (entry .pre) by (entry .args .task) (entry .args .t) (search needs) (search needs) is)
+    let k = entry .args .task in
+    let sum-is = c .peak-of .ensures .sum-is in
+    ap amount-of (task-answered _ _ (entry .pre) by k (entry .args .t) (search needs) (search needs) sum-is)
 
 pub sum-in-spec : {M : Type 1} → statement M
 sum-in-spec =

@@ -10,6 +10,7 @@ use lib.Dec.{T, ltb, ltb→lt}
 use lib.ListN.{length, getD}
 use Rattle.laws.specs.Sums.{sum, greatest, tabulate}
 use Rattle.laws.specs.Search.{least-from, first-least}
+use Rattle.laws.proofs.Every.{both-left, both-right, every, every-at}
 use Rattle.model.specs.Demand.{frame, offset, counted, lowest, all-demands, all-work}
 use Rattle.model.specs.Verdict.{horizon, closes, overloads, starts, overloaded-at, fits-at}
 use Rattle.model.specs.Answer.{answered}
@@ -23,7 +24,7 @@ use Rattle.table.proofs.Exact.{read-good}
 use Rattle.table.proofs.TaskLaws.{proper-table}
 use Rattle.desk.specs.Questions.{on-table, demand-asked, verdict-asked}
 use Rattle.desk.specs.Named.{Question, demand-of, verdict-on, Said, says-number, says-verdict, said, Row, A, B, named}
-use Rattle.desk.proofs.SameLaws.{both-left, both-right, every, every-at, same-int, same-list, same-verdict, same-answer, same-said, same-said-is}
+use Rattle.desk.proofs.SameLaws.{same-int, same-list, same-verdict, same-answer, same-said, same-said-is}
 
 -- what the rules say, by the walk
 quick : List ℕ → Question → Said

@@ -3,35 +3,13 @@
 use mathlib.Core.Bool.{Bool, true, false, _&&_}
 use mathlib.Core.Path.{_≡_, refl, ap, ap₂}
 use mathlib.Core.List.{List, [], _∷_}
-use Prim.Native.Nat.{ℕ, suc, zero, _<_}
-use native.Mathlib.Nat.{le-of-suc-le-suc, not-suc-le-zero}
+use Prim.Native.Nat.{ℕ}
 use lib.Dec.{T, eqb, eqb→eq}
 use lib.IntN.{ℤ, pos, negsuc}
-use lib.ListN.{length, getD}
+use Rattle.laws.proofs.Every.{both-left, both-right}
 use Rattle.model.specs.Verdict.{Verdict, overloaded, fits, undecided}
 use Rattle.model.specs.Answer.{Answer, answered, refused}
 use Rattle.desk.specs.Named.{Said, says-number, says-verdict}
-
-pub both-left : (a b : Bool) → T (a && b) → T a
-both-left true b h = tt
-both-left false b h = absurd h
-
-pub both-right : (a b : Bool) → T (a && b) → T b
-both-right true b h = h
-both-right false b h = absurd h
-
--- a test of every element
-unfoldable pub every : {A : Type 0} → (A → Bool) → List A → Bool
-every test [] = true
-every test (x ∷ l) = test x && every test l
-
-pub every-at : {A : Type 0} (test : A → Bool) (l : List A) (d : A) → T (every test l) → (i : ℕ) → i < length l
-    → T (test (getD l i d))
-unfolding every
-every-at test [] d h i below = absurd (not-suc-le-zero below)
-every-at test (x ∷ l) d h zero below = both-left (test x) (every test l) h
-every-at test (x ∷ l) d h (suc i) below =
-    every-at test l d (both-right (test x) (every test l) h) i (le-of-suc-le-suc below)
 
 unfoldable pub same-int : ℤ → ℤ → Bool
 same-int (pos a) (pos b) = eqb a b

@@ -13,3 +13,14 @@ module _ (n : ℕ) where
 
   pub none-left : (i : ℕ) → n ≤ i → n - i ≡ 0
   none-left i done = omega arith
+
+-- the same of the numbers from 1 to a limit
+module _ (limit : ℕ) where
+  pub all-to : suc limit - 1 ≡ limit
+  all-to = omega arith
+
+  pub one-less-to : (i : ℕ) → i ≤ limit → suc limit - i ≡ suc (suc limit - suc i)
+  one-less-to i more = omega arith
+
+  pub none-to : (i : ℕ) → limit < i → suc limit - i ≡ 0
+  none-to i past = omega arith

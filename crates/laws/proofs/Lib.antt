@@ -1,5 +1,6 @@
 pub mod Cases
 pub mod Countdown
+pub mod Every
 pub mod Fill
 pub mod LeastLaws
 pub mod PeakLaws

@@ -9,6 +9,7 @@ use native.Mathlib.Numerals.{add-one}
 use native.Mathlib.Omega.{arith}
 use Rattle.laws.specs.Search.{Found, at, nowhere, least-from}
 use Rattle.laws.proofs.Cases.{lt-or-le}
+use Rattle.laws.proofs.Countdown.{all-to, one-less-to, none-to}
 
 -- i is the least of the `many` numbers from `start` on that passes
 pub record Least (test : ℕ → Bool) (many start i : ℕ) : Type 0 where
@@ -107,18 +108,13 @@ pub record Seeking (test : ℕ → Bool) (limit i : ℕ) : Type 0 where
 
 pub seeking-start : (test : ℕ → Bool) (limit : ℕ) → Seeking test limit 1
 seeking-start test limit =
-    record { begun = le-refl 1; within = omega arith; rest = ap (λ (k : ℕ). least-from test k 1) whole }
-  where
-    whole : suc limit - 1 ≡ limit
-    whole = omega arith
+    record { begun = le-refl 1; within = omega arith; rest = ap (λ (k : ℕ). least-from test k 1) (all-to limit) }
 
 module _ {test : ℕ → Bool} {limit i : ℕ} (seeking : Seeking test limit i) where
-  left : i ≤ limit → suc limit - i ≡ suc (suc limit - suc i)
-  left more = omega arith
-
   pub seeking-hit : i ≤ limit → test i ≡ true → at i ≡ least-from test limit 1
   seeking-hit more e =
-      sym (ap (λ (k : ℕ). least-from test k i) (left more) ∙ least-hit test (suc limit - suc i) i e) ∙ seeking .rest
+      sym (ap (λ (k : ℕ). least-from test k i) (one-less-to limit i more) ∙ least-hit test (suc limit - suc i) i e)
+      ∙ seeking .rest
 
   pub seeking-on : i ≤ limit → test i ≡ false → Seeking test limit (i + 1)
   seeking-on more e =
@@ -127,13 +123,11 @@ module _ {test : ℕ → Bool} {limit i : ℕ} (seeking : Seeking test limit i) 
         begun = omega arith;
         within = omega arith;
         rest =
-            sym (ap (λ (k : ℕ). least-from test k i) (left more) ∙ least-miss test (suc limit - suc i) i e)
+            sym (ap (λ (k : ℕ). least-from test k i) (one-less-to limit i more)
+            ∙ least-miss test (suc limit - suc i) i e)
             ∙ seeking .rest;
       })
 
   pub seeking-end : limit < i → nowhere ≡ least-from test limit 1
   unfolding least-from
-  seeking-end past = ap (λ (k : ℕ). least-from test k i) none ∙ seeking .rest
-    where
-      none : 0 ≡ suc limit - i
-      none = omega arith
+  seeking-end past = sym (ap (λ (k : ℕ). least-from test k i) (none-to limit i past)) ∙ seeking .rest

@@ -8,6 +8,7 @@ use native.Mathlib.Numerals.{add-one}
 use native.Mathlib.Omega.{arith}
 use lib.Dec.{ltb}
 use lib.IntN.{ℤ, pos}
+use Rattle.laws.proofs.Countdown.{all-to, one-less-to, none-to}
 use Rattle.laws.proofs.LeastLaws.{Low-so-far, low-none, low-turn}
 use Rattle.laws.proofs.SignedLaws.{sub-above}
 use Rattle.model.specs.Task.{Table, ProperTable}
@@ -38,28 +39,19 @@ module _ {table : Table} (good : ProperTable table) (limit : ℕ) where
       record {
         begun = le-refl 1;
         within = omega arith;
-        rest = ap (λ (k : ℕ). walk table k 1) whole ∙ walk-is good limit;
+        rest = ap (λ (k : ℕ). walk table k 1) (all-to limit) ∙ walk-is good limit;
         calm = calm-one good;
         lowest = low-none (margin table);
       }
-    where
-      whole : suc limit - 1 ≡ limit
-      whole = omega arith
 
   module _ {t low at : ℕ} (walking : Walking table limit t low at) where
-    left : t ≤ limit → suc limit - t ≡ suc (suc limit - suc t)
-    left more = omega arith
-
     pub walking-end : limit < t → undecided ≡ verdict limit table
     unfolding walk
-    walking-end past = ap (λ (k : ℕ). walk table k t) none ∙ walking .rest
-      where
-        none : 0 ≡ suc limit - t
-        none = omega arith
+    walking-end past = sym (ap (λ (k : ℕ). walk table k t) (none-to limit t past)) ∙ walking .rest
 
     pub walking-over : t ≤ limit → t < all-demands table t → overloaded-at table t ≡ verdict limit table
     walking-over more over =
-        sym (ap (λ (k : ℕ). walk table k t) (left more)
+        sym (ap (λ (k : ℕ). walk table k t) (one-less-to limit t more)
         ∙ walk-over table (suc limit - suc t) t (overloads-yes table t over))
         ∙ walking .rest
 
@@ -85,7 +77,7 @@ module _ {table : Table} (good : ProperTable table) (limit : ℕ) where
           ap₂ (λ (m : ℤ) (u : ℕ). fits t m u)
           (sym (lowest-now .low-is (walking .begun)) ∙ ap (margin table) (lowest-now .at-is)) (lowest-now .at-is)
           ∙ sym
-          (ap (λ (k : ℕ). walk table k t) (left (tried .more))
+          (ap (λ (k : ℕ). walk table k t) (one-less-to limit t (tried .more))
           ∙ walk-fits table (suc limit - suc t) t (overloads-no table t calm-here) (closes-yes table t closed))
           ∙ walking .rest
 
@@ -97,7 +89,7 @@ module _ {table : Table} (good : ProperTable table) (limit : ℕ) where
             within = omega (arith, tried .more);
             rest =
                 sym
-                (ap (λ (k : ℕ). walk table k t) (left (tried .more))
+                (ap (λ (k : ℕ). walk table k t) (one-less-to limit t (tried .more))
                 ∙ walk-on table (suc limit - suc t) t (overloads-no table t calm-here) (closes-no table t open-still))
                 ∙ walking .rest;
             calm = calm-more good t (walking .calm) calm-here;

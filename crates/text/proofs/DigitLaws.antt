@@ -1,23 +1,20 @@
 -- The laws of digits and of the number that a word spells: one for each way through the code.
 -- Assumes nothing.
-use mathlib.Core.Bool.{Bool, true, false, _&&_}
+use mathlib.Core.Bool.{true, false}
 use mathlib.Core.List.{List}
-use mathlib.Core.Path.{_≡_, refl}
+use mathlib.Core.Path.{_≡_}
 use Prim.Native.Nat.{ℕ, _+_, _*_, _-_, _^_, _≤_, _<_}
 use native.Mathlib.Omega.{arith}
 use lib.Dec.{leb}
 use lib.ListN.{length, getD}
 use borrow.Author.Tests.{lt-ltb, le-ltb, leb-true, eq-eqb, ne-eqb}
+use Rattle.laws.proofs.Every.{and-true-left}
 use Rattle.text.specs.declared.Number.the-variants.{Is, Not}
 use Rattle.text.specs.Digits.{between, digit-of, longer, number-from, number-of}
 use Rattle.laws.proofs.Countdown.{all-left, one-less, none-left}
 
-and-left : (x y : Bool) → (x && y) ≡ true → x ≡ true
-and-left true y e = refl
-and-left false y e = e
-
 pub between-above : (low b high k : ℕ) → k ≤ low → between low b high ≡ true → k ≤ b
-between-above low b high k below e = omega (arith, leb-true low b (and-left (leb low b) (leb b high) e))
+between-above low b high k below e = omega (arith, leb-true low b (and-true-left (leb low b) (leb b high) e))
 
 -- a byte as a digit
 module _ (b : ℕ) where

@@ -107,3 +107,11 @@ module _ (f : ℕ → ℕ) where
 
 pub greatest-mono : (n : ℕ) (f g : ℕ → ℕ) → ((i : ℕ) → i < n → f i ≤ g i) → greatest n f ≤ greatest n g
 greatest-mono n f g h = greatest-le f n (greatest n g) (λ i l. omega (arith, h i l, greatest-ge g n i l))
+
+pub greatest-cong : (n : ℕ) (f g : ℕ → ℕ) → ((i : ℕ) → i < n → f i ≡ g i) → greatest n f ≡ greatest n g
+greatest-cong n f g same =
+    omega (
+      arith,
+      greatest-mono n f g (λ i l. omega (arith, same i l)),
+      greatest-mono n g f (λ i l. omega (arith, same i l)),
+    )

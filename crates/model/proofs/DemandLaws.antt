@@ -4,12 +4,13 @@ use mathlib.Core.Path.{_≡_, ap}
 use mathlib.Core.Logic.{inl, inr}
 use Prim.Native.Nat.{ℕ, zero, suc, _+_, _-_, _≤_, _<_}
 use native.Mathlib.Nat.{zero-add, le-refl}
+use native.Mathlib.Numerals.{add-one}
 use native.Mathlib.Omega.{arith}
 use lib.Dec.{leb, ltb}
-use lib.IntN.{pos, subℕ}
-use Rattle.laws.specs.Sums.{only}
+use lib.IntN.{pos}
+use Rattle.laws.specs.Sums.{sum, only, greatest}
 use Rattle.laws.proofs.Cases.{lt-or-le}
-use Rattle.laws.proofs.SumLaws.{gate, sum-mono, sum-longer, sum-+, sum-none, greatest-ge, greatest-le, greatest-mono}
+use Rattle.laws.proofs.SumLaws.{gate, sum-cong, sum-mono, sum-longer, sum-+, sum-none, greatest-ge, greatest-le, greatest-mono, greatest-cong}
 use Rattle.model.specs.Task.{Task, Table, Proper, ProperTable}
 use Rattle.model.specs.Demand.{frame, offset, part, counted, most, demand, work, all-demands, all-work, margin}
 use Rattle.model.proofs.CyclicLaws.{Moves, frame-lt, counted-zero, counted-on}
@@ -21,14 +22,25 @@ demand-moves proper = record { some = proper .some; gap = proper .moves; room = 
 pub work-moves : {task : Task} → Proper task → Moves task (λ i. 1)
 work-moves proper = record { some = proper .some; gap = proper .moves; room = λ i h. le-refl 1 }
 
--- work's condition in the document's words: the offset is below the window
-pub work-below : (off w e : ℕ) → only (leb (off + 1) w) e ≡ only (ltb off w) e
-work-below off w e = ap (λ (o : ℕ). only (leb o w) e) more
-  where
-    more : off + 1 ≡ suc off
-    more = omega arith
+-- work in the document's words: "add E of frames whose offset is below w; greatest over all s"
+below : Task → ℕ → ℕ → ℕ → ℕ
+below task w s n = only (ltb (offset task s n) w) (task .E (frame task s n))
+
+pub work-below : (task : Task) (w : ℕ)
+    → work task w ≡ greatest (task .count)
+    (λ s. sum (suc w) (λ n. only (ltb (offset task s n) w) (task .E (frame task s n))))
+unfolding counted below
+work-below task w =
+    greatest-cong (task .count) (counted task (λ i. 1) w) (λ s. sum (suc w) (below task w s))
+    (λ s l. sum-cong (suc w) (part task (λ i. 1) w s) (below task w s)
+    (λ n h. ap (λ (o : ℕ). only (leb o w) (task .E (frame task s n))) (add-one (offset task s n))))
 
 -- ---- one task
+
+-- no start gives more than the greatest
+pub counted-most : (task : Task) (reach : ℕ → ℕ) (t s : ℕ) → s < task .count
+    → counted task reach t s ≤ most task reach t
+counted-most task reach t s inside = greatest-ge (counted task reach t) (task .count) s inside
 
 -- more time lets no frame out
 pub counted-mono : (task : Task) (reach : ℕ → ℕ) (t u s : ℕ) → t ≤ u → counted task reach t s ≤ counted task reach u s
@@ -67,9 +79,6 @@ module _ {task : Task} {reach : ℕ → ℕ} (moves : Moves task reach) where
         (λ s l. omega (arith, counted-zero moves s)),
   )
 
-  counted-most : (t s : ℕ) → s < task .count → counted task reach t s ≤ most task reach t
-  counted-most t s inside = greatest-ge (counted task reach t) (task .count) s inside
-
   -- the first frame of a window is work in it
   work-on : (w s : ℕ) → s < task .count → 1 ≤ w
       → counted task (λ i. 1) w s ≡ task .E s + counted task (λ i. 1) (w - task .P s) (frame task s 1)
@@ -77,7 +86,11 @@ module _ {task : Task} {reach : ℕ → ℕ} (moves : Moves task reach) where
 
   split-none : (t s : ℕ) → s < task .count
       → counted task reach (0 + t) s ≤ counted task (λ i. 1) 0 s + most task reach t
-  split-none t s inside = omega (arith, ap (λ (u : ℕ). counted task reach u s) (zero-add t), counted-most t s inside)
+  split-none t s inside = omega (
+    arith,
+    ap (λ (u : ℕ). counted task reach u s) (zero-add t),
+    counted-most task reach t s inside,
+  )
 
   -- from frame s: the frames with offset below w are work in w, the others begin anew
   split-from : (k w t s : ℕ) → w ≤ k → s < task .count
@@ -96,7 +109,7 @@ module _ {task : Task} {reach : ℕ → ℕ} (moves : Moves task reach) where
             omega (
               arith,
               counted-mono task reach (suc w + t - task .P s) t next (omega arith),
-              counted-most t next (next-lt s),
+              counted-most task reach t next (next-lt s),
             )
         | inr back ↦ omega (arith, ap (λ (u : ℕ). counted task reach u next) (shorter (task .P s) back))
       ]
@@ -136,4 +149,4 @@ all-demands-zero {table} good =
 
 -- "the margin at 0 is 0"
 pub margin-zero : {table : Table} → ProperTable table → margin table 0 ≡ pos 0
-margin-zero good = ap (subℕ 0) (all-demands-zero good)
+margin-zero good = rw (all-demands-zero good)

@@ -10,12 +10,12 @@ use lib.Dec.{leb}
 use borrow.Author.Tests.{le-leb, lt-leb}
 use Rattle.laws.specs.Sums.{only}
 use Rattle.laws.proofs.Cases.{lt-or-le}
-use Rattle.laws.proofs.SumLaws.{gate, sum-zero, sum-head, sum-cong, greatest-ge}
+use Rattle.laws.proofs.SumLaws.{gate, sum-zero, sum-head, sum-cong}
 use Rattle.model.specs.Task.{Task}
 use Rattle.model.specs.Demand.{frame, offset, part, counted, most}
 use Rattle.model.specs.Run.{Run, asked}
 use Rattle.model.proofs.CyclicLaws.{Moves, frame-lt, frame-none, frame-on, counted-turns, counted-on}
-use Rattle.model.proofs.DemandLaws.{counted-mono}
+use Rattle.model.proofs.DemandLaws.{counted-mono, counted-most}
 
 both-most : (x y : Bool) (e : ℕ) → only (x && y) e ≤ only y e
 both-most true y e = le-refl (only y e)
@@ -98,7 +98,7 @@ module _ {task : Task} {reach : ℕ → ℕ} (moves : Moves task reach) (a b : �
             omega (
               arith,
               late (suc m) s a arrive inside run (λ some. in-time),
-              greatest-ge (counted task reach (b - a)) (task .count) s inside,
+              counted-most task reach (b - a) s inside,
             )
       ]
 

@@ -1,3 +1,4 @@
 pub mod DigitLaws
+pub mod FillLaws
 pub mod HexLaws
 pub mod TextLaws

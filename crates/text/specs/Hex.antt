@@ -1,11 +1,11 @@
 -- The bytes that a word of hex digits spells, and what is filled with them.
 -- Assumes nothing.
-use Prim.Native.Nat.{ℕ, zero, suc, _+_, _*_, _/_, _%_, _≤_}
+use Prim.Native.Nat.{ℕ, zero, suc, _+_, _*_, _/_, _%_, _≤_, _<_}
 use mathlib.Core.Path.{_≡_}
-use mathlib.Core.List.{List}
+use mathlib.Core.List.{List, _++_}
 use mathlib.Core.Bool.{cond}
 use lib.Dec.{ltb, eqb}
-use lib.ListN.{length, getD, take}
+use lib.ListN.{length, getD, drop}
 use Rattle.laws.specs.Sums.{tabulate}
 use Rattle.text.specs.declared.Byte.{Byte}
 use Rattle.text.specs.declared.Byte.the-variants as byte
@@ -47,9 +47,15 @@ filled-of hex room =
 abbrev pub byte-at : List ℕ → ℕ → ℕ
 byte-at hex i = 16 * digit-of (getD hex (2 * i) 0) + digit-of (getD hex (2 * i + 1) 0)
 
--- the first n bytes that a word spells
-abbrev pub bytes-of : List ℕ → ℕ → List ℕ
-bytes-of hex n = tabulate n (byte-at hex)
+-- the first n bytes that a word spells, and behind them what was there
+abbrev pub filled-with : List ℕ → ℕ → List ℕ → List ℕ
+filled-with hex n before = tabulate n (byte-at hex) ++ drop n before
+
+-- a word that spells n bytes, for which there is room
+pub record Spells (hex : List ℕ) (room n : ℕ) : Type 0 where
+  pub whole : n * 2 ≤ length hex
+  pub within : n ≤ room
+  pub each : (i : ℕ) → i < n → pair-at hex i ≡ byte.Is (byte-at hex i)
 
 -- the bytes that were filled
 abbrev pub size-of : Filled → ℕ
@@ -57,8 +63,8 @@ size-of (Bytes n) = n
 size-of NotHex = 0
 size-of TooLong = 0
 
--- the word's bytes stand at the start of what was filled
+-- the answer, and every byte of the buffer: where nothing is filled, it is as it was
 pub record Fills (hex before after : List ℕ) (filled : Filled) : Type 0 where
   pub answer : filled ≡ filled-of hex (length before)
   pub inside : size-of filled ≤ length after
-  pub bytes : take (size-of filled) after ≡ bytes-of hex (size-of filled)
+  pub bytes : after ≡ filled-with hex (size-of filled) before

@@ -3,7 +3,7 @@ ghost use mathlib.Core.Path.{_≡_};
 ghost use Prim.Native.Nat.{_<_, _≤_};
 ghost use lib.ListN.{length};
 ghost use Rattle.text.specs.Digits.{between, digit-of, longer, number-of};
-ghost use Rattle.text.specs.Hex.{Fills, pair-of};
+ghost use Rattle.text.specs.Hex.{Spells, Fills, pair-of, filled-of, filled-with};
 ghost use Rattle.text.specs.Text.{Alike, First, Next, space, of-sort};
 
 // A word of a line: the place of its first byte, and the place after its last. Where the two are equal no word is left.
@@ -174,12 +174,12 @@ fn byte_of(first: u8, second: u8) -> Byte
     Byte::Is(16 * high + low)
 }
 
-// Puts the bytes that the hex digits spell at the start of `table`.
-pub fn fill(hex: &[u8], table: &mut [u8]) -> Filled
-    ensures { λ r. ⌜ Fills (now (hex .entry)) (now (table .entry)) (now (table .exit)) r ⌝ }
+// How many bytes a word of hex digits spells, where there is room for so many.
+fn measure(hex: &[u8], room: usize) -> Filled
+    ensures { λ r. ⌜ r ≡ filled-of (now (hex .entry)) room ⌝ }
 {
     let n = hex.len() / 2;
-    if n > table.len() {
+    if n > room {
         return Filled::TooLong;
     }
     if hex.len() % 2 != 0 {
@@ -187,11 +187,40 @@ pub fn fill(hex: &[u8], table: &mut [u8]) -> Filled
     }
     let mut i: usize = 0;
     while i < n {
-        let Byte::Is(b) = byte_of(hex[2 * i], hex[2 * i + 1]) else {
+        let Byte::Is(_) = byte_of(hex[2 * i], hex[2 * i + 1]) else {
             return Filled::NotHex;
+        };
+        i += 1;
+    }
+    Filled::Bytes(n)
+}
+
+// Puts the n bytes that a word of hex digits spells at the start of `table`.
+fn put(hex: &[u8], n: usize, table: &mut [u8])
+    requires { ⌜ Spells (now hex) (length (now table)) n ⌝ }
+    ensures { λ r. ⌜ now (table .exit) ≡ filled-with (now (hex .entry)) n (now (table .entry)) ⌝ }
+{
+    let mut i: usize = 0;
+    while i < n {
+        let Byte::Is(b) = byte_of(hex[2 * i], hex[2 * i + 1]) else {
+            return;
         };
         table[i] = b;
         i += 1;
     }
-    Filled::Bytes(n)
+}
+
+// Puts the bytes that a word of hex digits spells at the start of `table`; where it spells none, nothing is written.
+pub fn fill(hex: &[u8], table: &mut [u8]) -> Filled
+    ensures { λ r. ⌜ Fills (now (hex .entry)) (now (table .entry)) (now (table .exit)) r ⌝ }
+{
+    let filled = measure(hex, table.len());
+    match filled {
+        Filled::Bytes(n) => {
+            put(hex, n, table);
+            Filled::Bytes(n)
+        }
+        Filled::NotHex => Filled::NotHex,
+        Filled::TooLong => Filled::TooLong,
+    }
 }

@@ -15,7 +15,7 @@ use Rattle.laws.proofs.SignedLaws.{sub-sign}
 use Rattle.model.specs.Task.{Table, ProperTable}
 use Rattle.model.specs.Demand.{all-demands, all-work, margin}
 use Rattle.model.specs.Verdict.{closes, overloads}
-use Rattle.model.proofs.DemandLaws.{all-demands-split, all-demands-zero}
+use Rattle.model.proofs.AllLaws.{all-demands-split, all-demands-zero}
 
 -- ---- the tests and their facts
 

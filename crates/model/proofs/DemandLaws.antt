@@ -1,4 +1,4 @@
--- Laws of demand and work: they never fall, and a longer interval asks no more than its two parts.
+-- Laws of one task's demand and work: they never fall, and a longer interval asks no more than its two parts.
 -- Assumes nothing.
 use mathlib.Core.Path.{_≡_, ap}
 use mathlib.Core.Logic.{inl, inr}
@@ -7,12 +7,11 @@ use native.Mathlib.Nat.{zero-add, le-refl}
 use native.Mathlib.Numerals.{add-one}
 use native.Mathlib.Omega.{arith}
 use lib.Dec.{leb, ltb}
-use lib.IntN.{pos}
 use Rattle.laws.specs.Sums.{sum, only, greatest}
 use Rattle.laws.proofs.Cases.{lt-or-le}
-use Rattle.laws.proofs.SumLaws.{gate, sum-cong, sum-mono, sum-longer, sum-+, sum-none, greatest-ge, greatest-le, greatest-mono, greatest-cong}
-use Rattle.model.specs.Task.{Task, Table, Proper, ProperTable}
-use Rattle.model.specs.Demand.{frame, offset, part, counted, most, demand, work, all-demands, all-work, margin}
+use Rattle.laws.proofs.SumLaws.{gate, sum-cong, sum-mono, sum-longer, greatest-ge, greatest-le, greatest-mono, greatest-cong}
+use Rattle.model.specs.Task.{Task, Proper}
+use Rattle.model.specs.Demand.{frame, offset, part, counted, most, work}
 use Rattle.model.proofs.CyclicLaws.{Moves, frame-lt, counted-zero, counted-on}
 
 -- a proper task moves under both reaches
@@ -126,27 +125,3 @@ module _ {task : Task} {reach : ℕ → ℕ} (moves : Moves task reach) where
         split-from w w t s (le-refl w) inside,
         greatest-ge (counted task (λ i. 1) w) (task .count) s inside,
       ))
-
--- ---- the whole table
-
-pub all-demands-split : {table : Table} → ProperTable table → (w t : ℕ)
-    → all-demands table (w + t) ≤ all-work table w + all-demands table t
-unfolding all-demands all-work
-all-demands-split {table} good w t =
-    omega (
-      arith,
-      sum-mono (table .tasks) (λ k. demand (table .task k) (w + t))
-          (λ k. work (table .task k) w + demand (table .task k) t)
-          (λ k inside. most-split (demand-moves (good .proper k inside)) w t),
-      sum-+ (table .tasks) (λ k. work (table .task k) w) (λ k. demand (table .task k) t),
-    )
-
-pub all-demands-zero : {table : Table} → ProperTable table → all-demands table 0 ≡ 0
-unfolding all-demands
-all-demands-zero {table} good =
-    sum-none (table .tasks) (λ k. demand (table .task k) 0)
-    (λ k inside. most-zero (demand-moves (good .proper k inside)))
-
--- "the margin at 0 is 0"
-pub margin-zero : {table : Table} → ProperTable table → margin table 0 ≡ pos 0
-margin-zero good = rw (all-demands-zero good)

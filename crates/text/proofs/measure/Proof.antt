@@ -1,6 +1,5 @@
--- `measure` meets its contract. The loop's invariant: the pairs passed spell bytes,
-    and those left give the whole answer
--- (`Measuring`). The measure is the number of pairs left.
+-- `measure` meets its contract. The loop's invariant: the pairs passed spell bytes, and those left give the whole
+-- answer (`Measuring`). The measure is the number of pairs left.
 -- Assumes nothing.
 use mathlib.Core.Path.{sym, _∙_}
 use Prim.Native.Nat.{_-_}

@@ -4,3 +4,7 @@ pub mod Run
 pub mod Verdict
 pub mod Meaning
 pub mod Answer
+pub mod Request
+pub mod Jobs
+pub mod Machine
+pub mod Replay

@@ -1,0 +1,41 @@
+-- The bench as it is loaded, and what its run answers: document 01, "The replay bench".
+-- Assumes nothing.
+use mathlib.Core.Bool.{cond}
+use mathlib.Core.List.{List}
+use Prim.Native.Nat.{ℕ, suc}
+use lib.Dec.{ltb}
+use Rattle.laws.specs.Sums.{tabulate}
+use Rattle.model.specs.Jobs.{Jobs}
+use Rattle.model.specs.Replay.{Replayed, missed, all-met, last-tick}
+use Rattle.bench.specs.declared.state.Bench.{Bench}
+use Rattle.bench.specs.declared.state.Outcome.{Outcome}
+use Rattle.bench.specs.declared.state.Outcome.the-variants.{Running, Missed, AllMet}
+use Rattle.bench.specs.Rule.{slots, run-of}
+
+-- one number for each job; "all zero before loading", so 0 past the last
+unfoldable pub slots-of : ℕ → (ℕ → ℕ) → List ℕ
+slots-of count f = tabulate slots (λ k. cond (ltb k count) (f k) 0)
+
+unfoldable pub loaded : Jobs → Bench
+loaded jobs =
+    record {
+      tick = 0;
+      left = slots-of (jobs .count) (jobs .amount);
+      due = slots-of (jobs .count) (jobs .due);
+      arrive = slots-of (jobs .count) (jobs .arrive);
+      task = slots-of (jobs .count) (jobs .task);
+      outcome = Running;
+    }
+
+-- "All runs end by tick 131,070": a state at that tick is still taken
+unfoldable pub run-whole : Bench → Bench
+run-whole b = run-of (suc last-tick) b
+
+-- "It answers the miss, or all met". No run of a loaded list ends while running; that case has to say something.
+abbrev pub answer-of : Outcome → ℕ → Replayed
+answer-of (Missed i) tick = missed tick i
+answer-of AllMet tick = all-met tick
+answer-of Running tick = all-met tick
+
+unfoldable pub replay-of : Jobs → Replayed
+replay-of jobs = let end = run-whole (loaded jobs) in answer-of (end .outcome) (end .tick)

@@ -1,0 +1,2 @@
+// The replay bench: earliest deadline first, tick by tick.
+pub mod state;

@@ -1,0 +1,24 @@
+-- Jobs, which is all that a machine knows of requests: document 01, "A table, record by record".
+-- Assumes nothing.
+use Prim.Native.Nat.{ℕ, _+_}
+use Rattle.model.specs.Task.{Table}
+use Rattle.model.specs.Request.{Requests}
+
+-- `count` jobs by their number; each asks for `amount` ticks, from `arrive` on and before `due`
+pub record Jobs : Type 0 where
+  pub count : ℕ
+  pub task : ℕ → ℕ
+  pub arrive : ℕ → ℕ
+  pub due : ℕ → ℕ
+  pub amount : ℕ → ℕ
+
+-- "A request arriving at a must be done by a + D", and E is its run time
+abbrev pub jobs-of : Table → Requests → Jobs
+jobs-of table list =
+    record {
+      count = list .count;
+      task = λ k. list .request k .task;
+      arrive = λ k. list .request k .arrival;
+      due = λ k. list .request k .arrival + table .task (list .request k .task) .D (list .request k .frame);
+      amount = λ k. table .task (list .request k .task) .E (list .request k .frame);
+    }

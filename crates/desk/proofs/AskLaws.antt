@@ -20,7 +20,7 @@ use Rattle.table.specs.Bytes.{size}
 use Rattle.table.specs.TableOf.{table-of, plan-of}
 use Rattle.table.specs.declared.plan.Plan.{Plan}
 use Rattle.table.proofs.Exact.{shaped}
-use Rattle.sums.proofs.ReadyLaws.{ready-read, ready-tasks}
+use Rattle.table.proofs.ReadyLaws.{ready-read, ready-tasks}
 use Rattle.desk.specs.Questions.{after-reading, one-task, margin-asked, window-asked, verdict-asked}
 
 -- the table's refusal is passed on, whatever else would be said

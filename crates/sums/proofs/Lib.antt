@@ -1,4 +1,4 @@
 pub mod CountLaws
 pub mod MostLaws
-pub mod ReadyLaws
+pub mod PeakReady
 pub mod TotalLaws

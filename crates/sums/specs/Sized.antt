@@ -9,10 +9,8 @@ use lib.ListN.{length}
 use Rattle.laws.specs.Sums.{sum}
 use Rattle.model.specs.Task.{Task, Table, Proper}
 use Rattle.model.specs.Demand.{counted, most, lowest}
-use Rattle.table.specs.Bytes.{size, records}
-use Rattle.table.specs.TableOf.{table-of, task-of, plan-of}
-use Rattle.table.specs.WellFormed.{WellFormed}
-use Rattle.table.specs.declared.plan.Plan.{Plan}
+use Rattle.table.specs.Bytes.{size}
+use Rattle.table.specs.TableOf.{task-of}
 use Rattle.sums.specs.declared.peak.Peak.{Peak}
 
 -- every t and window that the desk will answer is at most this, whatever its horizon
@@ -41,11 +39,6 @@ pub record Stands (s : List ℕ) (first frames t : ℕ) : Type 0 where
   pub inside : (first + frames) * size ≤ length s
   pub proper : Proper (task-of s first frames)
   pub within : t ≤ ceiling
-
--- the bytes are a table, and this is its plan
-pub record Ready (s : List ℕ) (plan : Plan) : Type 0 where
-  pub good : WellFormed s
-  pub plan-is : plan ≡ plan-of s (records s) (table-of s .tasks)
 
 -- ---- what is ensured
 

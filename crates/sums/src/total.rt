@@ -3,8 +3,9 @@ use crate::peak::Peak;
 use table::plan::Plan;
 ghost use mathlib.Core.Path.{_≡_};
 ghost use Prim.Native.Nat.{_<_, _≤_};
+ghost use Rattle.table.specs.Ready.{Ready};
 ghost use Rattle.table.specs.TableOf.{table-of};
-ghost use Rattle.sums.specs.Sized.{Ready, Greatest, Total, ceiling};
+ghost use Rattle.sums.specs.Sized.{Greatest, Total, ceiling};
 
 // The peak of task k.
 pub fn peak_of(s: &[u8], plan: Plan, k: usize, t: u64, due: bool) -> Peak

@@ -11,3 +11,4 @@ pub mod Exact
 pub mod Runs
 pub mod Stands
 pub mod TaskLaws
+pub mod ReadyLaws

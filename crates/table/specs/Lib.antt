@@ -4,3 +4,4 @@ pub mod Reader
 pub mod WellFormed
 pub mod Refusals
 pub mod TableOf
+pub mod Ready

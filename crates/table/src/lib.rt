@@ -1,4 +1,5 @@
 // The bytes of a table: its records, the rules 1 to 6, and where each task stands.
+pub mod frame;
 pub mod plan;
 pub mod reader;
 pub mod record;

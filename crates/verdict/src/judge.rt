@@ -6,8 +6,9 @@ ghost use Prim.Native.Nat.{_≤_, min};
 ghost use lib.Dec.{ltb};
 ghost use lib.IntN.{pos};
 ghost use Rattle.model.specs.Verdict.{fits, overloaded-at, verdict};
+ghost use Rattle.table.specs.Ready.{Ready};
 ghost use Rattle.table.specs.TableOf.{table-of};
-ghost use Rattle.sums.specs.Sized.{Ready, Total, ceiling};
+ghost use Rattle.sums.specs.Sized.{Total, ceiling};
 ghost use Rattle.verdict.specs.Written.{judged-of};
 
 pub enum Verdict {

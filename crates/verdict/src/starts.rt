@@ -3,8 +3,9 @@ use table::plan::Plan;
 ghost use mathlib.Core.Path.{_≡_};
 ghost use Prim.Native.Nat.{_<_, _≤_};
 ghost use Rattle.model.specs.Verdict.{start-in, starts};
+ghost use Rattle.table.specs.Ready.{Ready};
 ghost use Rattle.table.specs.TableOf.{table-of};
-ghost use Rattle.sums.specs.Sized.{Ready, ceiling};
+ghost use Rattle.sums.specs.Sized.{ceiling};
 
 // The start of task k, 0 past the last task.
 fn start_of(s: &[u8], plan: Plan, k: usize, t: u64) -> u8

@@ -3,8 +3,9 @@ use table::plan::Plan;
 ghost use mathlib.Core.Path.{_≡_};
 ghost use Prim.Native.Nat.{_≤_};
 ghost use Rattle.model.specs.Verdict.{closing-window};
+ghost use Rattle.table.specs.Ready.{Ready};
 ghost use Rattle.table.specs.TableOf.{table-of};
-ghost use Rattle.sums.specs.Sized.{Ready, ceiling};
+ghost use Rattle.sums.specs.Sized.{ceiling};
 ghost use Rattle.verdict.specs.Written.{closing-of};
 
 pub enum Closing {

@@ -4,7 +4,7 @@ use mathlib.Core.Path.{ap, _∙_}
 use borrow.Author.Needs.{needs}
 use Rattle.model.specs.Verdict.{horizon}
 use Rattle.verdict.specs.declared.judge.Judged as verdict
-use Rattle.sums.proofs.ReadyLaws.{ready-read}
+use Rattle.table.proofs.ReadyLaws.{ready-read}
 use Rattle.desk.specs.Written.{judgement-of}
 use Rattle.desk.specs.declared.Judged.{Judged}
 use Rattle.desk.specs.declared.Judgement.the-variants.{Is}

@@ -5,7 +5,7 @@ use borrow.Author.Needs.{needs}
 use lib.IntN.{subℕ}
 use Rattle.laws.proofs.SignedLaws.{signed-kept}
 use Rattle.model.specs.Verdict.{horizon}
-use Rattle.sums.proofs.ReadyLaws.{ready-read}
+use Rattle.table.proofs.ReadyLaws.{ready-read}
 use Rattle.sums.proofs.TotalLaws.{demands-are}
 use Rattle.desk.specs.Written.{spare-of}
 use Rattle.desk.specs.declared.Spare.the-variants.{Refused}

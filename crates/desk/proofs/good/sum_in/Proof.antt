@@ -5,7 +5,7 @@ use native.Mathlib.Omega.{arith}
 use borrow.Author.Needs.{needs}
 use Rattle.model.specs.Verdict.{horizon}
 use Rattle.sums.specs.Sized.{most-by}
-use Rattle.sums.proofs.ReadyLaws.{ready-read}
+use Rattle.table.proofs.ReadyLaws.{ready-read}
 use Rattle.desk.specs.Written.{amount-of}
 use Rattle.desk.specs.declared.Amount.the-variants.{Refused}
 use Rattle.desk.proofs.AskLaws.{plan-room, plan-tasks, no-such-task, task-too-far, task-answered}

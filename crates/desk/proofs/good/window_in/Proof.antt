@@ -3,7 +3,7 @@
 use mathlib.Core.Path.{ap, _∙_}
 use borrow.Author.Needs.{needs}
 use Rattle.model.specs.Verdict.{horizon}
-use Rattle.sums.proofs.ReadyLaws.{ready-read}
+use Rattle.table.proofs.ReadyLaws.{ready-read}
 use Rattle.desk.specs.Written.{window-of}
 use Rattle.desk.specs.declared.Window.the-variants.{Is}
 use Rattle.desk.proofs.AskLaws.{plan-room, window-answered}

@@ -4,7 +4,7 @@ use Prim.Native.Nat.{_-_}
 use native.Mathlib.Omega.{arith}
 use borrow.Author.Needs.{needs}
 use Rattle.table.specs.TableOf.{table-of}
-use Rattle.sums.proofs.ReadyLaws.{ready-tasks, ready-few}
+use Rattle.table.proofs.ReadyLaws.{ready-tasks, ready-few}
 use Rattle.sums.proofs.TotalLaws.{Adding, adding-none, adding-room, adding-on, adding-end}
 use Rattle.sums.proofs.total.total.Statement.{statement}
 use Rattle.sums.proofs.total.total.Tie as tie

@@ -7,7 +7,7 @@ use borrow.Author.Needs.{needs}
 use Rattle.model.specs.Task.{ProperTable}
 use Rattle.model.proofs.Walking.{Walking, Tried, walking-start, walking-end, walking-over, walking-fits, walking-on}
 use Rattle.table.specs.TableOf.{table-of}
-use Rattle.sums.proofs.ReadyLaws.{ready-proper}
+use Rattle.table.proofs.ReadyLaws.{ready-proper}
 use Rattle.sums.proofs.TotalLaws.{demands-are, work-is}
 use Rattle.verdict.specs.Written.{judged-of}
 use Rattle.verdict.proofs.judge.judge_to.Statement.{statement}

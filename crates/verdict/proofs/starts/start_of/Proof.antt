@@ -3,7 +3,8 @@
 use native.Mathlib.Omega.{arith}
 use borrow.Author.Needs.{needs}
 use Rattle.table.specs.TableOf.{table-of}
-use Rattle.sums.proofs.ReadyLaws.{ready-tasks, ready-start}
+use Rattle.table.proofs.ReadyLaws.{ready-tasks}
+use Rattle.sums.proofs.PeakReady.{task-start}
 use Rattle.verdict.proofs.StartIn.{start-inside, start-past}
 use Rattle.verdict.proofs.starts.start_of.Statement.{statement}
 use Rattle.verdict.proofs.starts.start_of.Tie as tie
@@ -14,7 +15,7 @@ cast-result c =
     let entry = known .before in
     omega (
       arith,
-      ready-start (entry .pre .0) (known .shared-slice-known .given) (entry .args .k) (search needs)
+      task-start (entry .pre .0) (known .shared-slice-known .given) (entry .args .k) (search needs)
           (c .peak-of .ensures),
     )
 

@@ -1,0 +1,36 @@
+-- Which bytes are a request list of a table, said of the bytes alone: document 01, "The replay bench".
+-- Assumes nothing.
+use Prim.Native.Nat.{ℕ, _+_, _*_, _%_, _≤_, _<_}
+use mathlib.Core.Path.{_≡_}
+use mathlib.Core.List.{List}
+use lib.ListN.{length}
+use Rattle.model.specs.Task.{Table}
+use Rattle.model.specs.Request.{Known, Next, Follows, Before, last-arrival}
+use Rattle.table.specs.Bytes.{size, records}
+use Rattle.requests.specs.Entry.{entry-of, list-of}
+use Rattle.requests.specs.Reader.{most-requests}
+
+-- rule 10, the length: "A list has 0 to 128 records"
+pub record Length-right (n : ℕ) : Type 0 where
+  pub few : n ≤ most-requests * size
+  pub whole : n % size ≡ 0
+
+-- rule 10: "two zero bytes", a known task and frame, "arrivals 0 to 65,535", the order
+pub record In-place (table : Table) (s : List ℕ) (j : ℕ) : Type 0 where
+  pub pad : entry-of s j .pad ≡ 0
+  pub known : Known table (list-of s .request j)
+  pub near : list-of s .request j .arrival ≤ last-arrival
+  pub ordered : (i : ℕ) → i + 1 ≡ j → Before (list-of s .request i) (list-of s .request j)
+
+-- rule 11: its frame and its arrival follow on the task's request before it
+abbrev pub In-turn : Table → List ℕ → ℕ → Type 0
+In-turn table s j = (i : ℕ) → Next (list-of s) i j → Follows table (list-of s .request i) (list-of s .request j)
+
+-- the rules of one record, in the document's order
+pub record Good (table : Table) (s : List ℕ) (j : ℕ) : Type 0 where
+  pub in-place : In-place table s j
+  pub in-turn : In-turn table s j
+
+pub record Accepted (table : Table) (s : List ℕ) : Type 0 where
+  pub long : Length-right (length s)
+  pub good : (j : ℕ) → j < records s → Good table s j

@@ -1,0 +1,52 @@
+-- The rules 10 and 11 as the reader tests them, record by record: document 01, "When the desk says no".
+-- Assumes nothing.
+use Prim.Native.Nat.{ℕ, _+_}
+use mathlib.Core.Bool.{Bool, not, cond, _&&_, _||_}
+use lib.Dec.{ltb, leb, eqb}
+use lib.ListN.{getD, set, replicate}
+use Rattle.model.specs.Task.{Table}
+use Rattle.model.specs.Demand.{frame}
+use Rattle.model.specs.Request.{last-arrival}
+use Rattle.requests.specs.declared.entry.Entry.{Entry}
+use Rattle.requests.specs.declared.rules.SoFar.{SoFar}
+
+-- before the first record any may come
+abbrev pub none-yet : SoFar
+none-yet = record { arrival = 0; task = 0; next = replicate 16 0; from = replicate 16 0 }
+
+-- "unknown task or frame"
+abbrev pub unknown : Table → Entry → Bool
+unknown table x = leb (table .tasks) (x .task) || leb (table .task (x .task) .count) (x .frame)
+
+-- "sorted by arrival and at equal arrivals by strictly rising task number"
+abbrev pub out-of-order : SoFar → Entry → Bool
+out-of-order b x = ltb (x .arrival) (b .arrival) || (eqb (x .arrival) (b .arrival) && ltb (x .task) (b .task))
+
+-- 10: "pad not zero, unknown task or frame, arrival too large, order broken"
+abbrev pub misplaced : Table → SoFar → Entry → Bool
+misplaced table b x =
+    not (eqb (x .pad) 0) || (unknown table x || (ltb last-arrival (x .arrival) || out-of-order b x))
+
+-- 11: "next request has the wrong frame or comes too soon"
+abbrev pub out-of-turn : SoFar → Entry → Bool
+out-of-turn b x =
+    let next = getD (b .next) (x .task) 0 in
+    ltb 0 next && (not (eqb (x .frame + 1) next) || ltb (x .arrival) (getD (b .from) (x .task) 0))
+
+-- "in each record 10 before 11": the first that is broken, or 0
+abbrev pub first-broken : Bool → Bool → ℕ
+first-broken r10 r11 = cond r10 10 (cond r11 11 0)
+
+abbrev pub fault-of : Table → SoFar → Entry → ℕ
+fault-of table b x = first-broken (misplaced table b x) (out-of-turn b x)
+
+-- what is known after a good record
+abbrev pub after-of : Table → SoFar → Entry → SoFar
+after-of table b x =
+    let task = table .task (x .task) in
+    record {
+      arrival = x .arrival;
+      task = x .task + 1;
+      next = set (b .next) (x .task) (frame task (x .frame) 1 + 1);
+      from = set (b .from) (x .task) (x .arrival + task .P (x .frame));
+    }

@@ -1,0 +1,33 @@
+-- What the crates above ask of a caller that has read a table, and what they know of a frame that they look up.
+-- Assumes nothing.
+use mathlib.Core.Path.{_≡_}
+use mathlib.Core.List.{List}
+use Prim.Native.Nat.{ℕ, _≤_, _<_}
+use Rattle.model.specs.Task.{Task}
+use Rattle.table.specs.Bytes.{records}
+use Rattle.table.specs.TableOf.{table-of, plan-of}
+use Rattle.table.specs.WellFormed.{WellFormed}
+use Rattle.table.specs.declared.plan.Plan.{Plan}
+use Rattle.table.specs.declared.record.Record.{Record}
+
+-- the bytes are a table, and this is its plan
+pub record Ready (s : List ℕ) (plan : Plan) : Type 0 where
+  pub good : WellFormed s
+  pub plan-is : plan ≡ plan-of s (records s) (table-of s .tasks)
+
+-- the table has a task k, and the task a frame i
+pub record Has-frame (s : List ℕ) (k i : ℕ) : Type 0 where
+  pub task : k < table-of s .tasks
+  pub frame : i < table-of s .task k .count
+
+-- the number of frames, from which the next frame's number is found
+pub record Frames (task : Task) (r : ℕ) : Type 0 where
+  pub is : r ≡ task .count
+  pub some : 1 ≤ r
+  pub few : r ≤ 16
+
+-- x is the record of frame i
+pub record Frame-is (task : Task) (i : ℕ) (x : Record) : Type 0 where
+  pub e : x .e ≡ task .E i
+  pub d : x .d ≡ task .D i
+  pub p : x .p ≡ task .P i

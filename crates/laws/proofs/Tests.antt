@@ -75,11 +75,19 @@ catches-or {first = true} one other =
 catches-or {first = false} one other =
     record { passed = λ e. (one .passed refl, other .passed e); caught = λ e holds. other .caught e (holds .1) }
 
--- a rule that binds only where two numbers agree
-pub catches-when : (a b : ℕ) {test : Bool} {P : Type 0} → Catches test P → Catches (eqb a b && test) (a ≡ b → P)
-catches-when a b {test} {P} by = which (eqb a b) refl
-  where
-    which : (t : Bool) → eqb a b ≡ t → Catches (t && test) (a ≡ b → P)
-    which true e =
-        record { passed = λ f same. by .passed f; caught = λ f holds. by .caught f (holds (eqb-true a b e)) }
-    which false e = record { passed = λ f same. absurd (eqb-false a b e same); caught = λ f. absurd (false≢true f) }
+-- a rule that binds only where a guard says so
+catches-given : {guard test : Bool} {fact P : Type 0} → (guard ≡ true → fact) → (guard ≡ false → fact → ⊥) →
+    Catches test P → Catches (guard && test) (fact → P)
+catches-given {guard = true} holds fails by =
+    record { passed = λ e given. by .passed e; caught = λ e rule. by .caught e (rule (holds refl)) }
+catches-given {guard = false} holds fails by =
+    record { passed = λ e given. absurd (fails refl given); caught = λ e. absurd (false≢true e) }
+
+module _ (a b : ℕ) {test : Bool} {P : Type 0} (by : Catches test P) where
+  -- where two numbers agree
+  pub catches-when : Catches (eqb a b && test) (a ≡ b → P)
+  catches-when = catches-given (eqb-true a b) (eqb-false a b) by
+
+  -- where one is less than the other
+  pub catches-past : Catches (ltb a b && test) (a < b → P)
+  catches-past = catches-given (ltb-true a b) (λ e less. omega (arith, ltb-false a b e)) by

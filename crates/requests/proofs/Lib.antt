@@ -1,0 +1,4 @@
+pub mod LengthLaws
+pub mod TestLaws
+pub mod PlacedLaws
+pub mod Turns

@@ -1,12 +1,14 @@
 -- The rules 10 and 11 as the reader tests them, record by record: document 01, "When the desk says no".
 -- Assumes nothing.
-use Prim.Native.Nat.{ℕ, _+_}
+use Prim.Native.Nat.{ℕ, _+_, _≤_}
+use mathlib.Core.List.{List}
 use mathlib.Core.Bool.{Bool, not, cond, _&&_, _||_}
 use lib.Dec.{ltb, leb, eqb}
 use lib.ListN.{getD, set, replicate}
 use Rattle.model.specs.Task.{Table}
 use Rattle.model.specs.Demand.{frame}
 use Rattle.model.specs.Request.{last-arrival}
+use Rattle.table.specs.Ready.{Has-frame}
 use Rattle.requests.specs.declared.entry.Entry.{Entry}
 use Rattle.requests.specs.declared.rules.SoFar.{SoFar}
 
@@ -40,13 +42,25 @@ first-broken r10 r11 = cond r10 10 (cond r11 11 0)
 abbrev pub fault-of : Table → SoFar → Entry → ℕ
 fault-of table b x = first-broken (misplaced table b x) (out-of-turn b x)
 
--- what is known after a good record
+-- ---- what is known after a good record
+
+-- one more than the task's next frame, and the soonest that it may come
+abbrev pub next-of : Table → Entry → ℕ
+next-of table x = frame (table .task (x .task)) (x .frame) 1 + 1
+
+abbrev pub soonest : Table → Entry → ℕ
+soonest table x = x .arrival + table .task (x .task) .P (x .frame)
+
 abbrev pub after-of : Table → SoFar → Entry → SoFar
 after-of table b x =
-    let task = table .task (x .task) in
     record {
       arrival = x .arrival;
       task = x .task + 1;
-      next = set (b .next) (x .task) (frame task (x .frame) 1 + 1);
-      from = set (b .from) (x .task) (x .arrival + task .P (x .frame));
+      next = set (b .next) (x .task) (next-of table x);
+      from = set (b .from) (x .task) (soonest table x);
     }
+
+-- what is asked of a record before the next is looked at: it is known, and no later than the last arrival
+pub record Placed (s : List ℕ) (x : Entry) : Type 0 where
+  pub known : Has-frame s (x .task) (x .frame)
+  pub near : x .arrival ≤ last-arrival

@@ -1,8 +1,72 @@
 // The reader of request lists: refusals 10 and 11.
+use crate::rules::SoFar;
+use table::plan::Plan;
 use table::reader::Refusal;
+use table::record::SIZE;
+ghost use mathlib.Core.Path.{_≡_};
+ghost use Rattle.table.specs.Ready.{Ready};
+ghost use Rattle.table.specs.TableOf.{table-of};
+ghost use Rattle.requests.specs.Reader.{bad-length, check-of, refusal-in};
+
+// The most requests of a list.
+pub const MOST: usize = 128;
 
 // A legal list by its number of records, or the refusal.
 pub enum Checked {
     Legal(usize),
     Refused(Refusal),
+}
+
+fn is_bad_length(n: usize) -> bool
+    ensures { λ r. ⌜ r ≡ bad-length n ⌝ }
+{
+    (MOST * SIZE < n) | (n % SIZE != 0)
+}
+
+// The whole list: how many records it has, or the first refusal.
+pub fn check_list<'a, 'b>(s: &'a [u8], plan: Plan, list: &'b [u8]) -> Checked
+    requires { ⌜ Ready (now s) plan ⌝ }
+    ensures { λ r. ⌜ r ≡ check-of (table-of (now (s .entry))) (now (list .entry)) ⌝ }
+{
+    let len = list.len();
+    if is_bad_length(len) {
+        return Checked::Refused(Refusal {
+            number: 10,
+            index: 0,
+        });
+    }
+    let n = len / SIZE;
+    let mut b = SoFar {
+        arrival: 0,
+        task: 0,
+        next: [0u8; 16],
+        from: [0u32; 16],
+    };
+    let mut i: usize = 0;
+    while i < n {
+        let x = crate::entry::entry_at(list, i);
+        let f = crate::rules::fault(s, plan, b, x);
+        if f != 0 {
+            return Checked::Refused(Refusal {
+                number: f,
+                index: i,
+            });
+        }
+        b = crate::rules::after(s, plan, b, x);
+        i += 1;
+    }
+    Checked::Legal(n)
+}
+
+// The refusal of a check that has one: what a caller passes on after `let Checked::Legal(..) = r else`.
+pub fn refusal_of(r: Checked) -> Refusal
+    ensures { λ no. ⌜ no ≡ refusal-in r ⌝ }
+{
+    match r {
+        Checked::Refused(no) => no,
+        Checked::Legal(_) => Refusal {
+            number: 0,
+            index: 0,
+        },
+    }
 }

@@ -1,4 +1,15 @@
 // The rules 10 and 11: document 01, "When the desk says no".
+use crate::entry::Entry;
+use table::plan::Plan;
+ghost use mathlib.Core.Path.{_≡_};
+ghost use Prim.Native.Nat.{_<_};
+ghost use Rattle.table.specs.Ready.{Ready, Has-frame};
+ghost use Rattle.table.specs.TableOf.{table-of};
+ghost use Rattle.requests.specs.Rules.{unknown, out-of-order, misplaced, out-of-turn, fault-of};
+ghost use Rattle.requests.specs.Rules.{next-of, soonest, after-of, Placed};
+
+// "arrivals 0 to 65,535"
+pub const LAST_ARRIVAL: u32 = 65535;
 
 // What the records so far say. The next record comes after `arrival`, or at it with a task from `task` on; of each task,
 // `next` is one more than the frame that has to come next, or 0 where any may, and it may not come before `from`.
@@ -7,4 +18,86 @@ pub struct SoFar {
     pub task: u16,
     pub next: [u8; 16],
     pub from: [u32; 16],
+}
+
+fn is_unknown(s: &[u8], plan: Plan, x: Entry) -> bool
+    requires { ⌜ Ready (now s) plan ⌝ }
+    ensures { λ r. ⌜ r ≡ unknown (table-of (now (s .entry))) x ⌝ }
+{
+    let task = x.task as usize;
+    if plan.tasks <= task {
+        return true;
+    }
+    table::frame::count_frames(s, plan, task) <= x.frame as usize
+}
+
+fn is_out_of_order(b: SoFar, x: Entry) -> bool
+    ensures { λ r. ⌜ r ≡ out-of-order b x ⌝ }
+{
+    (x.arrival < b.arrival) | ((x.arrival == b.arrival) & ((x.task as u16) < b.task))
+}
+
+fn is_misplaced(s: &[u8], plan: Plan, b: SoFar, x: Entry) -> bool
+    requires { ⌜ Ready (now s) plan ⌝ }
+    ensures { λ r. ⌜ r ≡ misplaced (table-of (now (s .entry))) b x ⌝ }
+{
+    (x.pad != 0) | (is_unknown(s, plan, x) | ((LAST_ARRIVAL < x.arrival) | is_out_of_order(b, x)))
+}
+
+fn is_out_of_turn(b: SoFar, x: Entry) -> bool
+    requires { ⌜ x .task < 16 ⌝ }
+    ensures { λ r. ⌜ r ≡ out-of-turn b x ⌝ }
+{
+    let next = b.next[x.task as usize];
+    let from = b.from[x.task as usize];
+    (0 < next) & ((x.frame as u16 + 1 != next as u16) | (x.arrival < from))
+}
+
+// The number of the first rule that is broken, or 0.
+pub fn fault(s: &[u8], plan: Plan, b: SoFar, x: Entry) -> u8
+    requires { ⌜ Ready (now s) plan ⌝ }
+    ensures { λ r. ⌜ r ≡ fault-of (table-of (now (s .entry))) b x ⌝ }
+{
+    if is_misplaced(s, plan, b, x) {
+        return 10;
+    }
+    if is_out_of_turn(b, x) {
+        return 11;
+    }
+    0
+}
+
+// One more than the frame that comes after x in its task.
+fn next_after(s: &[u8], plan: Plan, x: Entry) -> u8
+    requires { ⌜ Ready (now s) plan × Has-frame (now s) (x .task) (x .frame) ⌝ }
+    ensures { λ r. ⌜ r ≡ next-of (table-of (now (s .entry))) x ⌝ }
+{
+    let count = table::frame::count_frames(s, plan, x.task as usize);
+    ((x.frame as usize + 1) % count + 1) as u8
+}
+
+// The soonest that the frame after x may come.
+fn soonest_after(s: &[u8], plan: Plan, x: Entry) -> u32
+    requires { ⌜ Ready (now s) plan × Placed (now s) x ⌝ }
+    ensures { λ r. ⌜ r ≡ soonest (table-of (now (s .entry))) x ⌝ }
+{
+    let frame = table::frame::frame_at(s, plan, x.task as usize, x.frame as usize);
+    x.arrival + frame.p as u32
+}
+
+pub fn after(s: &[u8], plan: Plan, b: SoFar, x: Entry) -> SoFar
+    requires { ⌜ Ready (now s) plan × Placed (now s) x ⌝ }
+    ensures { λ r. ⌜ r ≡ after-of (table-of (now (s .entry))) b x ⌝ }
+{
+    let task = x.task as usize;
+    let mut next = b.next;
+    next[task] = next_after(s, plan, x);
+    let mut from = b.from;
+    from[task] = soonest_after(s, plan, x);
+    SoFar {
+        arrival: x.arrival,
+        task: x.task as u16 + 1,
+        next,
+        from,
+    }
 }

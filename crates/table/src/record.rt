@@ -22,7 +22,7 @@ fn wide(x: u8) -> u16
 }
 
 // 16 bits at a place, low byte first.
-fn half_at(s: &[u8], at: usize) -> u16
+pub fn half_at(s: &[u8], at: usize) -> u16
     requires { ⌜ at + 1 < length (now s) ⌝ }
     ensures { λ r. ⌜ r ≡ half (now (s .entry)) at ⌝ }
 {

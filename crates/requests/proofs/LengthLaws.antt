@@ -1,0 +1,22 @@
+-- Rule 10, the length: the test is true exactly where the length is wrong; and what a right length gives.
+-- Assumes nothing.
+use Prim.Native.Nat.{ℕ, _*_, _/_, _%_, _≤_}
+use mathlib.Core.Path.{_≡_}
+use native.Mathlib.Omega.{arith}
+use Rattle.laws.proofs.Tests.{Catches, catches-as, catches-lt, catches-ne, catches-or}
+use Rattle.table.specs.Bytes.{size}
+use Rattle.requests.specs.Reader.{most-requests, bad-length}
+use Rattle.requests.specs.Accepted.{Length-right}
+
+pub catches-length : (n : ℕ) → Catches (bad-length n) (Length-right n)
+catches-length n =
+    catches-as there back (catches-or (catches-lt (most-requests * size) n) (catches-ne (n % size) 0))
+  where
+    there : (n ≤ most-requests * size) × (n % size ≡ 0) → Length-right n
+    there (few, whole) = record { few = few; whole = whole }
+
+    back : Length-right n → (n ≤ most-requests * size) × (n % size ≡ 0)
+    back right = (right .few, right .whole)
+
+pub right-few : {n : ℕ} → Length-right n → n / size ≤ most-requests
+right-few right = omega (arith, right .few)

@@ -1,0 +1,83 @@
+-- What the code's tests say of a record, where a table and its plan are at hand: which rule is broken first, and that a
+-- record with none broken has its frame there.
+-- Assumes nothing.
+use Prim.Native.Nat.{ℕ, _+_, _%_, _≤_, _<_}
+use mathlib.Core.Path.{_≡_, refl, sym, _∙_}
+use mathlib.Core.List.{List}
+use mathlib.Core.Bool.{Bool, true, false, not, _||_}
+use lib.Dec.{ltb, leb, eqb}
+use native.Mathlib.Nat.{mod-lt}
+use native.Mathlib.Omega.{arith}
+use borrow.Author.Tests.{le-leb, lt-leb}
+use Rattle.model.specs.Task.{Task}
+use Rattle.model.specs.Demand.{frame}
+use Rattle.model.specs.Request.{last-arrival}
+use Rattle.table.specs.declared.plan.Plan.{Plan}
+use Rattle.table.specs.Ready.{Ready, Has-frame, Frames}
+use Rattle.table.specs.TableOf.{table-of}
+use Rattle.table.proofs.ReadyLaws.{ready-tasks, ready-few}
+use Rattle.requests.specs.declared.entry.Entry.{Entry}
+use Rattle.requests.specs.declared.rules.SoFar.{SoFar}
+use Rattle.requests.specs.Rules.{unknown, out-of-order, misplaced, out-of-turn, fault-of, Placed}
+use Rattle.requests.proofs.TestLaws.{catches-place, first-10, first-11, first-none, none-10}
+
+pub last-arrival-is : last-arrival ≡ 65535
+unfolding last-arrival
+last-arrival-is = refl
+
+-- ---- the next frame
+
+module _ {task : Task} {count : ℕ} (counted : Frames task count) (i : ℕ) where
+  pub next-few : (i + 1) % count < 16
+  next-few = omega (arith, mod-lt (i + 1) (counted .some), counted .few)
+
+  pub next-is : (i + 1) % count + 1 ≡ frame task i 1 + 1
+  unfolding frame
+  next-is = rw (counted .is)
+
+-- ---- the tests
+
+module _ {s : List ℕ} {plan : Plan} (ready : Ready s plan) (x : Entry) where
+  pub unknown-task : plan .tasks ≤ x .task → true ≡ unknown (table-of s) x
+  unknown-task past = sym (rw (le-leb (table-of s .tasks) (x .task) (omega (arith, ready-tasks ready))))
+
+  pub unknown-frame : {count : ℕ} → x .task < plan .tasks → Frames (table-of s .task (x .task)) count →
+      leb count (x .frame) ≡ unknown (table-of s) x
+  unknown-frame there counted =
+      sym (rw (lt-leb (table-of s .tasks) (x .task) (omega (arith, ready-tasks ready)), counted .is))
+
+  module _ (has : Has-frame s (x .task) (x .frame)) where
+    pub known-low : x .task < 16
+    known-low = omega (arith, has .task, ready-few ready)
+
+    pub known-task : x .task < plan .tasks
+    known-task = omega (arith, has .task, ready-tasks ready)
+
+-- a record that rule 10 passes, and so one with no fault, may be told to `after`
+module _ {s : List ℕ} {x : Entry} (b : SoFar) where
+  pub passed-placed : misplaced (table-of s) b x ≡ false → Placed s x
+  passed-placed fine =
+      let kept = catches-place (table-of s) b x .passed fine in
+      record { known = record { task = kept .known .task; frame = kept .known .frame }; near = kept .near }
+
+  pub fine-placed : {fault : ℕ} → fault ≡ fault-of (table-of s) b x → fault ≡ 0 → Placed s x
+  fine-placed is none = passed-placed (none-10 (misplaced (table-of s) b x) (out-of-turn b x) (sym is ∙ none))
+
+module _ {s : List ℕ} {plan : Plan} (ready : Ready s plan) (b : SoFar) (x : Entry) where
+  pub misplaced-is : {strange early : Bool} → strange ≡ unknown (table-of s) x → early ≡ out-of-order b x →
+      (not (eqb (x .pad) 0) || (strange || (ltb 65535 (x .arrival) || early))) ≡ misplaced (table-of s) b x
+  misplaced-is strange-is early-is = rw (strange-is, early-is, last-arrival-is)
+
+  module _ {r10 : Bool} (is-10 : r10 ≡ misplaced (table-of s) b x) where
+    pub fault-10 : r10 ≡ true → 10 ≡ fault-of (table-of s) b x
+    fault-10 broken = sym (first-10 (out-of-turn b x) (sym is-10 ∙ broken))
+
+    module _ (fine : r10 ≡ false) where
+      pub passed-low : x .task < 16
+      passed-low = known-low ready x (passed-placed {x = x} b (sym is-10 ∙ fine) .known)
+
+      pub fault-11 : {r11 : Bool} → r11 ≡ out-of-turn b x → r11 ≡ true → 11 ≡ fault-of (table-of s) b x
+      fault-11 is-11 broken = sym (first-11 (sym is-10 ∙ fine) (sym is-11 ∙ broken))
+
+      pub fault-none : {r11 : Bool} → r11 ≡ out-of-turn b x → r11 ≡ false → 0 ≡ fault-of (table-of s) b x
+      fault-none is-11 kept = sym (first-none (sym is-10 ∙ fine) (sym is-11 ∙ kept))

@@ -1,0 +1,79 @@
+-- The tests of the rules 10 and 11, of any table, state and record: what is left where each is false.
+-- Assumes nothing.
+use Prim.Native.Nat.{ℕ, _+_, _≤_, _<_}
+use mathlib.Core.Path.{_≡_, refl}
+use mathlib.Core.Bool.{Bool, true, false, false≢true}
+use lib.ListN.{getD}
+use native.Mathlib.Omega.{arith}
+use Rattle.laws.proofs.Tests.{Catches, catches-as, catches-lt, catches-le, catches-ne, catches-or, catches-when, catches-past}
+use Rattle.model.specs.Task.{Table}
+use Rattle.model.specs.Request.{Known, last-arrival}
+use Rattle.requests.specs.declared.entry.Entry.{Entry}
+use Rattle.requests.specs.declared.rules.SoFar.{SoFar}
+use Rattle.requests.specs.Entry.{request-in}
+use Rattle.requests.specs.Rules.{misplaced, out-of-turn, first-broken}
+
+-- ---- rule 10
+
+pub record In-order (b : SoFar) (x : Entry) : Type 0 where
+  pub not-before : b .arrival ≤ x .arrival
+  pub rising : x .arrival ≡ b .arrival → b .task ≤ x .task
+
+pub record Place-kept (table : Table) (b : SoFar) (x : Entry) : Type 0 where
+  pub pad : x .pad ≡ 0
+  pub known : Known table (request-in x)
+  pub near : x .arrival ≤ last-arrival
+  pub in-order : In-order b x
+
+pub catches-place : (table : Table) (b : SoFar) (x : Entry) → Catches (misplaced table b x) (Place-kept table b x)
+catches-place table b x =
+    catches-as
+    (λ (pad, ((task, frame), (near, (not-before, rising)))). place pad task frame near not-before rising)
+    (λ kept.
+    let order = kept .in-order in
+    (kept .pad, ((kept .known .task, kept .known .frame), (kept .near, (order .not-before, order .rising)))))
+    (catches-or
+    (catches-ne _ 0)
+    (catches-or
+    (catches-or (catches-le _ _) (catches-le _ _))
+    (catches-or (catches-lt last-arrival _) (catches-or (catches-lt _ _) (catches-when _ _ (catches-lt _ _))))))
+  where
+    place : x .pad ≡ 0 → x .task < table .tasks → x .frame < table .task (x .task) .count →
+        x .arrival ≤ last-arrival → b .arrival ≤ x .arrival → (x .arrival ≡ b .arrival → b .task ≤ x .task) →
+        Place-kept table b x
+    place pad task frame near not-before rising =
+        record {
+          pad = pad;
+          known = record { task = task; frame = frame };
+          near = near;
+          in-order = record { not-before = not-before; rising = rising };
+        }
+
+-- ---- rule 11
+
+-- where the task has a record before, its next frame is told, and the soonest that it comes
+pub record Turn-kept (b : SoFar) (x : Entry) : Type 0 where
+  pub frame : 0 < getD (b .next) (x .task) 0 → x .frame + 1 ≡ getD (b .next) (x .task) 0
+  pub not-soon : 0 < getD (b .next) (x .task) 0 → getD (b .from) (x .task) 0 ≤ x .arrival
+
+pub catches-turn : (b : SoFar) (x : Entry) → Catches (out-of-turn b x) (Turn-kept b x)
+catches-turn b x =
+    catches-as
+    (λ kept. record { frame = λ told. kept told .0; not-soon = λ told. kept told .1 })
+    (λ kept told. (kept .frame told, kept .not-soon told))
+    (catches-past 0 _ (catches-or (catches-ne _ _) (catches-lt _ _)))
+
+-- ---- the first that is broken
+
+pub first-10 : {r10 : Bool} (r11 : Bool) → r10 ≡ true → first-broken r10 r11 ≡ 10
+first-10 r11 first = rw first
+
+pub first-11 : {r10 r11 : Bool} → r10 ≡ false → r11 ≡ true → first-broken r10 r11 ≡ 11
+first-11 fine next = rw (fine, next)
+
+pub first-none : {r10 r11 : Bool} → r10 ≡ false → r11 ≡ false → first-broken r10 r11 ≡ 0
+first-none fine on-time = rw (fine, on-time)
+
+pub none-10 : (r10 r11 : Bool) → first-broken r10 r11 ≡ 0 → r10 ≡ false
+none-10 true r11 none = absurd (omega arith)
+none-10 false r11 none = refl

@@ -1,0 +1,71 @@
+-- `requests::reader::check_list` meets its contract. The loop's invariant, `Checks-on`: before record i, checking on from
+-- there with what is carried from the records passed gives the whole answer. The measure is the records left.
+-- Assumes nothing.
+use Prim.Native.Nat.{_-_}
+use mathlib.Core.Path.{sym, _∙_}
+use borrow.Author.Needs.{needs}
+use Rattle.table.specs.TableOf.{table-of}
+use Rattle.requests.proofs.PlacedLaws.{fine-placed}
+use Rattle.requests.proofs.Turns.{Checks-on, check-short, checks-start, checks-turn, checks-refused, checks-done}
+use Rattle.requests.proofs.reader.check_list.Statement.{statement}
+use Rattle.requests.proofs.reader.check_list.Tie as tie
+
+abbrev Inv-loop : tie.InvT-loop
+Inv-loop s plan list len n b₀ i₀ b i = Checks-on (table-of s) list n i b
+
+abbrev μ-loop : tie.MeasureT-loop
+μ-loop s plan list len n b₀ i₀ b i = n - i
+
+returns : tie.Need-returns Inv-loop μ-loop
+returns c = sym (check-short _ _ (sym (c .before .is-bad-length .ensures) ∙ c .if1 .taken))
+
+loop-holds : tie.Need-loop-holds Inv-loop μ-loop
+loop-holds c = checks-start _ _ (c .before .is-bad-length .ensures) (c .if1 .left)
+
+returns-2 : tie.Need-returns-2 Inv-loop μ-loop
+returns-2 c =
+    let at-entry = c .before .before in
+    checks-refused
+    (at-entry .before .before .loop .inv)
+    (search needs)
+    (at-entry .entry-at .ensures)
+    (c .before .fault .ensures)
+    (search needs)
+
+after-requires : tie.Need-after-requires Inv-loop μ-loop
+after-requires c κs =
+    let at-entry = c .before .before in
+    (search needs, fine-placed (at-entry .before .before .loop .b) (c .before .fault .ensures) (search needs))
+
+loop-again : tie.Need-loop-again Inv-loop μ-loop
+loop-again c =
+    let at-fault = c .before .before in
+    let at-entry = at-fault .before in
+    checks-turn
+    (at-entry .before .before .loop .inv)
+    (search needs)
+    (at-entry .entry-at .ensures)
+    (at-fault .fault .ensures)
+    (search needs)
+    (search needs)
+
+returns-3 : tie.Need-returns-3 Inv-loop μ-loop
+returns-3 c = checks-done (c .before .loop .inv) (search needs)
+
+pub check-list-spec : {M : Type 1} → statement M
+check-list-spec =
+    tie.close
+    (tie.spec
+    Inv-loop
+    μ-loop
+    (λ c κs. search needs)
+    returns
+    loop-holds
+    (λ c κs. search needs)
+    (λ c κs. search needs)
+    returns-2
+    after-requires
+    (λ c. search needs)
+    (λ c. search needs)
+    loop-again
+    returns-3)

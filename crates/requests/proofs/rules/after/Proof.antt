@@ -1,0 +1,34 @@
+-- `requests::rules::after` meets its contract: the record's task is one of the 16 places, and its next frame is set there.
+-- Assumes nothing.
+use borrow.Author.Needs.{needs}
+use Rattle.requests.proofs.PlacedLaws.{known-low}
+use Rattle.requests.proofs.rules.after.Statement.{statement}
+use Rattle.requests.proofs.rules.after.Tie as tie
+
+array-write-next : tie.Need-array-write-next
+array-write-next c =
+    let entry = c .before .before .before .before in
+    known-low (entry .pre .0) (entry .args .x) (entry .pre .1 .known)
+
+array-write-from : tie.Need-array-write-from
+array-write-from c =
+    let at-next = c .before .before in
+    let entry = at-next .before .before .before .before in
+    known-low (entry .pre .0) (entry .args .x) (entry .pre .1 .known)
+
+returns : tie.Need-returns
+returns c = cc
+
+pub after-spec : {M : Type 1} → statement M
+after-spec =
+    tie.close
+    (tie.spec
+    (λ c. search needs)
+    (λ c κs. search needs)
+    array-write-next
+    (λ c κs. search needs)
+    (λ c. search needs)
+    array-write-from
+    (λ c. search needs)
+    (λ c. search needs)
+    returns)

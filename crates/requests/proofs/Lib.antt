@@ -2,3 +2,9 @@ pub mod LengthLaws
 pub mod TestLaws
 pub mod PlacedLaws
 pub mod Turns
+pub mod CarriedLaws
+pub mod CarriedNext
+pub mod FaultLaws
+pub mod RuleLaws
+pub mod CheckLaws
+pub mod Exact

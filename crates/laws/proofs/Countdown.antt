@@ -14,6 +14,10 @@ module _ (n : ℕ) where
   pub none-left : (i : ℕ) → n ≤ i → n - i ≡ 0
   none-left i done = omega arith
 
+-- all the numbers from `start` on
+pub all-from : (start many : ℕ) → start + many - start ≡ many
+all-from start many = omega arith
+
 -- the same of the numbers from 1 to a limit
 module _ (limit : ℕ) where
   pub all-to : suc limit - 1 ≡ limit

@@ -9,7 +9,7 @@ use native.Mathlib.Numerals.{add-one}
 use native.Mathlib.Omega.{arith}
 use Rattle.laws.specs.Search.{Found, at, nowhere, least-from}
 use Rattle.laws.proofs.Cases.{lt-or-le}
-use Rattle.laws.proofs.Countdown.{all-to, one-less-to, none-to}
+use Rattle.laws.proofs.Countdown.{all-from, one-less, none-left}
 
 -- i is the least of the `many` numbers from `start` on that passes
 pub record Least (test : ℕ → Bool) (many start i : ℕ) : Type 0 where
@@ -99,35 +99,32 @@ module _ (test : ℕ → Bool) where
           (record { low = le-refl start; high = omega arith; passes = e; first = λ j h k. absurd (omega arith) })
       which false e rest = rw (least-miss many start e) (longer (least-from test many (suc start)) e rest)
 
--- ---- a loop that tries i from 1 up to a limit: what is left to try gives the whole
+-- ---- a loop that tries i, one after the other: what is left to try gives the whole
 
-pub record Seeking (test : ℕ → Bool) (limit i : ℕ) : Type 0 where
-  pub begun : 1 ≤ i
-  pub within : i ≤ suc limit
-  pub rest : least-from test (suc limit - i) i ≡ least-from test limit 1
+pub record Seeking (test : ℕ → Bool) (many start i : ℕ) : Type 0 where
+  pub within : i ≤ start + many
+  pub rest : least-from test (start + many - i) i ≡ least-from test many start
 
-pub seeking-start : (test : ℕ → Bool) (limit : ℕ) → Seeking test limit 1
-seeking-start test limit =
-    record { begun = le-refl 1; within = omega arith; rest = ap (λ (k : ℕ). least-from test k 1) (all-to limit) }
+pub seeking-start : (test : ℕ → Bool) (many start : ℕ) → Seeking test many start start
+seeking-start test many start =
+    record { within = omega arith; rest = ap (λ (k : ℕ). least-from test k start) (all-from start many) }
 
-module _ {test : ℕ → Bool} {limit i : ℕ} (seeking : Seeking test limit i) where
-  pub seeking-hit : i ≤ limit → test i ≡ true → at i ≡ least-from test limit 1
+module _ {test : ℕ → Bool} {many start i : ℕ} (seeking : Seeking test many start i) where
+  pub seeking-hit : i < start + many → test i ≡ true → at i ≡ least-from test many start
   seeking-hit more e =
-      sym (ap (λ (k : ℕ). least-from test k i) (one-less-to limit i more) ∙ least-hit test (suc limit - suc i) i e)
+      sym (ap (λ (k : ℕ). least-from test k i) (one-less (start + many) i more) ∙ least-hit test _ i e)
       ∙ seeking .rest
 
-  pub seeking-on : i ≤ limit → test i ≡ false → Seeking test limit (i + 1)
+  pub seeking-on : i < start + many → test i ≡ false → Seeking test many start (i + 1)
   seeking-on more e =
-      rw add-one
-      (record {
-        begun = omega arith;
+      record {
         within = omega arith;
         rest =
-            sym (ap (λ (k : ℕ). least-from test k i) (one-less-to limit i more)
-            ∙ least-miss test (suc limit - suc i) i e)
+            sym (ap (λ (k : ℕ). least-from test k i) (one-less (start + many) i more) ∙ least-miss test _ i e
+            ∙ ap (least-from test (start + many - (i + 1))) (sym (add-one i)))
             ∙ seeking .rest;
-      })
+      }
 
-  pub seeking-end : limit < i → nowhere ≡ least-from test limit 1
+  pub seeking-end : start + many ≤ i → nowhere ≡ least-from test many start
   unfolding least-from
-  seeking-end past = sym (ap (λ (k : ℕ). least-from test k i) (none-to limit i past)) ∙ seeking .rest
+  seeking-end past = sym (ap (λ (k : ℕ). least-from test k i) (none-left (start + many) i past)) ∙ seeking .rest

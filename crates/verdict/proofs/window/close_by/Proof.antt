@@ -14,13 +14,13 @@ use Rattle.verdict.proofs.window.close_by.Statement.{statement}
 use Rattle.verdict.proofs.window.close_by.Tie as tie
 
 abbrev Inv-loop : tie.InvT-loop
-Inv-loop s plan limit w₀ w = Seeking (closes (table-of s)) limit w
+Inv-loop s plan limit w₀ w = Seeking (closes (table-of s)) limit 1 w
 
 abbrev μ-loop : tie.MeasureT-loop
 μ-loop s plan limit w₀ w = limit + 1 - w
 
 loop-holds : tie.Need-loop-holds Inv-loop μ-loop
-loop-holds c = seeking-start _ _
+loop-holds c = seeking-start _ _ _
 
 -- the window closes
 returns : tie.Need-returns Inv-loop μ-loop

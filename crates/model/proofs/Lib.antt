@@ -7,3 +7,4 @@ pub mod WalkLaws
 pub mod Walking
 pub mod StartLaws
 pub mod VerdictLaws
+pub mod PickLaws

@@ -1,2 +1,3 @@
 pub mod Rule
 pub mod Loaded
+pub mod Scan

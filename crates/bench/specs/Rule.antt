@@ -18,32 +18,38 @@ abbrev pub slots : ℕ
 slots = 128
 
 -- the slots as jobs, with what each has left
-unfoldable pub jobs-in : Bench → Jobs
-jobs-in b =
+abbrev pub slot-jobs : (left due arrive task : List ℕ) → Jobs
+slot-jobs left due arrive task =
     record {
       count = slots;
-      task = λ k. getD (b .task) k 0;
-      arrive = λ k. getD (b .arrive) k 0;
-      due = λ k. getD (b .due) k 0;
-      amount = λ k. getD (b .left) k 0;
+      task = λ k. getD task k 0;
+      arrive = λ k. getD arrive k 0;
+      due = λ k. getD due k 0;
+      amount = λ k. getD left k 0;
     }
 
-abbrev pub has-left : Bench → ℕ → Bool
-has-left b k = ltb 0 (getD (b .left) k 0)
+unfoldable pub jobs-in : Bench → Jobs
+jobs-in b = slot-jobs (b .left) (b .due) (b .arrive) (b .task)
+
+abbrev pub has-left : List ℕ → ℕ → Bool
+has-left left k = ltb 0 (getD left k 0)
 
 -- "At tick T, first any request with work left and deadline at most T is a miss": the one with the lowest index
-abbrev pub is-late : Bench → ℕ → Bool
-is-late b k = has-left b k && leb (getD (b .due) k 0) (b .tick)
+abbrev pub is-late : (left due : List ℕ) → ℕ → ℕ → Bool
+is-late left due t k = has-left left k && leb (getD due k 0) t
 
 unfoldable pub first-late : Bench → Found
-first-late b = least-from (is-late b) slots 0
+first-late b = least-from (is-late (b .left) (b .due) (b .tick)) slots 0
 
 unfoldable pub first-left : Bench → Found
-first-left b = least-from (has-left b) slots 0
+first-left b = least-from (has-left (b .left)) slots 0
 
 -- "the arrived, unfinished request with the earliest deadline, ties by lower task, then earlier arrival"
+abbrev pub next-of : Jobs → ℕ → Found
+next-of jobs t = chosen jobs (sooner jobs) t (jobs .amount)
+
 unfoldable pub next-in : Bench → Found
-next-in b = chosen (jobs-in b) (sooner (jobs-in b)) (b .tick) (jobs-in b .amount)
+next-in b = next-of (jobs-in b) (b .tick)
 
 -- the state with another outcome
 abbrev pub with-outcome : Bench → Outcome → Bench

@@ -4,6 +4,7 @@ pub mod Every
 pub mod Fill
 pub mod LeastLaws
 pub mod PeakLaws
+pub mod PlaceLaws
 pub mod SearchLaws
 pub mod SignedLaws
 pub mod SignedOrder

@@ -1,0 +1,72 @@
+// The request that a tick serves: of those that are ready, the first in the order.
+use crate::state::SLOTS;
+ghost use mathlib.Core.Path.{_≡_};
+ghost use Prim.Native.Nat.{_+_, _<_};
+ghost use Rattle.laws.specs.Search.{place-or};
+ghost use Rattle.bench.specs.Rule.{slots, slot-jobs, next-of};
+ghost use Rattle.bench.specs.Scan.{goes-before, Tried};
+
+// "the earliest deadline, ties by lower task, then earlier arrival"
+fn goes_before<'a>(
+    due: &'a [u32; SLOTS],
+    arrive: &'a [u32; SLOTS],
+    task: &'a [u8; SLOTS],
+    i: usize,
+    j: usize,
+) -> bool
+    requires { ⌜ (i < slots) × (j < slots) ⌝ }
+    ensures { λ r. ⌜ r ≡ goes-before (now (due .entry)) (now (arrive .entry)) (now (task .entry)) i j ⌝ }
+{
+    (due[i] < due[j])
+        | ((due[i] == due[j])
+            & ((task[i] < task[j]) | ((task[i] == task[j]) & (arrive[i] < arrive[j]))))
+}
+
+// One request more: the better of request i, if it is ready, and the best below it.
+fn better<'a>(
+    left: &'a [u32; SLOTS],
+    due: &'a [u32; SLOTS],
+    arrive: &'a [u32; SLOTS],
+    task: &'a [u8; SLOTS],
+    t: u32,
+    best: usize,
+    i: usize,
+) -> usize
+    requires { ⌜ (i < slots) × Tried (slot-jobs (now left) (now due) (now arrive) (now task)) t i best ⌝ }
+    ensures { λ r. ⌜
+        Tried (slot-jobs (now (left .entry)) (now (due .entry)) (now (arrive .entry)) (now (task .entry))) t (i + 1) r
+        ⌝ }
+{
+    let ready = (arrive[i] <= t) & (0 < left[i]);
+    if !ready {
+        return best;
+    }
+    if SLOTS <= best {
+        return i;
+    }
+    if goes_before(due, arrive, task, i, best) {
+        return i;
+    }
+    best
+}
+
+pub fn next_of<'a>(
+    left: &'a [u32; SLOTS],
+    due: &'a [u32; SLOTS],
+    arrive: &'a [u32; SLOTS],
+    task: &'a [u8; SLOTS],
+    t: u32,
+) -> usize
+    ensures { λ r. ⌜
+        r ≡ place-or slots
+        (next-of (slot-jobs (now (left .entry)) (now (due .entry)) (now (arrive .entry)) (now (task .entry))) t)
+        ⌝ }
+{
+    let mut best = SLOTS;
+    let mut i: usize = 0;
+    while i < SLOTS {
+        best = better(left, due, arrive, task, t, best, i);
+        i += 1;
+    }
+    best
+}

@@ -1,1 +1,5 @@
 pub mod NextLaws
+pub mod ScanLaws
+pub mod TickLaws
+pub mod Stopped
+pub mod Ticking

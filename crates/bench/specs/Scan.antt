@@ -1,13 +1,15 @@
--- How far the scan for the next request has come.
+-- How far the scan for the next request has come, and what it finds.
 -- Assumes nothing.
 use mathlib.Core.Path.{_≡_}
 use mathlib.Core.List.{List}
-use Prim.Native.Nat.{ℕ, _≤_}
+use Prim.Native.Nat.{ℕ, _≤_, _<_}
 use lib.Dec.{ltb}
 use lib.ListN.{getD}
 use Rattle.laws.specs.Search.{place-or}
 use Rattle.model.specs.Jobs.{Jobs}
+use Rattle.model.specs.Replay.{last-tick}
 use Rattle.model.specs.Machine.{Order, first-by, sooner, ready, pick}
+use Rattle.bench.specs.declared.state.Bench.{Bench}
 use Rattle.bench.specs.Rule.{slots}
 
 -- "the earliest deadline, ties by lower task, then earlier arrival", of two slots
@@ -20,3 +22,9 @@ goes-before due arrive task i j =
 pub record Tried (jobs : Jobs) (t i best : ℕ) : Type 0 where
   pub within : i ≤ slots
   pub best-is : best ≡ place-or slots (pick (ready jobs t (jobs .amount)) (sooner jobs) i)
+
+-- request k may be given a unit
+pub record Servable (b : Bench) (k : ℕ) : Type 0 where
+  pub inside : k < slots
+  pub undone : 0 < getD (b .left) k 0
+  pub in-time : b .tick ≤ last-tick

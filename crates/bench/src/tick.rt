@@ -1,1 +1,86 @@
-// x
+// The tick and the run: document 01, "The replay bench".
+use crate::next::next_of;
+use crate::scan::first_late;
+use crate::scan::first_left;
+use crate::state::Bench;
+use crate::state::LAST_TICK;
+use crate::state::Outcome;
+use crate::state::SLOTS;
+ghost use mathlib.Core.Path.{_≡_};
+ghost use Rattle.laws.specs.Search.{at};
+ghost use Rattle.bench.specs.Rule.{with-outcome, moved-on, less-one, tick-of};
+ghost use Rattle.bench.specs.Scan.{Servable};
+ghost use Rattle.bench.specs.Loaded.{run-whole};
+
+impl Bench {
+    // The state with another outcome.
+    fn ended(self, outcome: Outcome) -> Bench
+        ensures { λ r. ⌜ r ≡ with-outcome self outcome ⌝ }
+    {
+        let left = self.left;
+        let due = self.due;
+        let arrive = self.arrive;
+        let task = self.task;
+        Bench {
+            tick: self.tick,
+            left,
+            due,
+            arrive,
+            task,
+            outcome,
+        }
+    }
+
+    // One unit to request k, and the next tick.
+    fn served(mut self, k: usize) -> Bench
+        requires { ⌜ Servable self k ⌝ }
+        ensures { λ r. ⌜ r ≡ moved-on self (less-one (self .left) (at k)) ⌝ }
+    {
+        self.left[k] -= 1;
+        self.tick += 1;
+        self
+    }
+
+    pub fn tick(mut self) -> Bench
+        ensures { λ r. ⌜ r ≡ tick-of self ⌝ }
+    {
+        let outcome = self.outcome;
+        let Outcome::Running = outcome else {
+            return self;
+        };
+        let t = self.tick;
+        if LAST_TICK < t {
+            return self;
+        }
+        let late = first_late(&self.left, &self.due, t);
+        if late < SLOTS {
+            return self.ended(Outcome::Missed(late));
+        }
+        if SLOTS <= first_left(&self.left) {
+            return self.ended(Outcome::AllMet);
+        }
+        let next = next_of(&self.left, &self.due, &self.arrive, &self.task, t);
+        if SLOTS <= next {
+            self.tick = t + 1;
+            return self;
+        }
+        self.served(next)
+    }
+
+    // At most one tick for each of 0 to LAST_TICK.
+    pub fn run(self) -> Bench
+        ensures { λ r. ⌜ r ≡ run-whole self ⌝ }
+    {
+        let mut b = self;
+        let mut ticks: u32 = 0;
+        while ticks <= LAST_TICK {
+            let outcome = b.outcome;
+            let Outcome::Running = outcome else {
+                return b;
+            };
+            b = b.tick();
+            ticks += 1;
+        }
+        b
+    }
+}

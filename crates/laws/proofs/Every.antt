@@ -1,6 +1,6 @@
 -- A test of every element of a list, as a table is tested by computing; and tests joined by `&&`.
 -- Assumes nothing.
-use mathlib.Core.Bool.{Bool, true, false, _&&_}
+use mathlib.Core.Bool.{Bool, true, false, _&&_, false≢true}
 use mathlib.Core.Path.{_≡_, refl}
 use mathlib.Core.List.{List, [], _∷_}
 use Prim.Native.Nat.{ℕ, suc, zero, _<_}
@@ -11,6 +11,10 @@ use lib.ListN.{length, getD}
 pub and-true-left : (a b : Bool) → (a && b) ≡ true → a ≡ true
 and-true-left true b e = refl
 and-true-left false b e = e
+
+pub and-true-right : (a b : Bool) → (a && b) ≡ true → b ≡ true
+and-true-right true b e = e
+and-true-right false b e = absurd (false≢true e)
 
 pub both-left : (a b : Bool) → T (a && b) → T a
 both-left true b h = tt

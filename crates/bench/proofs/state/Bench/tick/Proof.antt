@@ -1,0 +1,67 @@
+-- `tick` meets its contract: one return for each sentence of the rule.
+-- Assumes nothing.
+use mathlib.Core.Path.{_∙_, sym}
+use borrow.Author.Needs.{needs}
+use Rattle.model.specs.Replay.{last-tick}
+use Rattle.bench.proofs.ScanLaws.{late-at, late-none, left-at, left-none, next-at, next-none, next-served}
+use Rattle.bench.proofs.TickLaws.{tick-past, tick-missed, tick-met, tick-idle, tick-unit}
+use Rattle.bench.proofs.Stopped.{tick-stopped}
+use Rattle.bench.proofs.state.Bench.tick.Statement.{statement}
+use Rattle.bench.proofs.state.Bench.tick.Tie as tie
+
+returns : tie.Need-returns
+returns c = sym (tick-stopped _ (c .match .keys2))
+
+returns-2 : tie.Need-returns-2
+unfolding last-tick
+returns-2 c = sym (tick-past (search needs))
+
+returns-3 : tie.Need-returns-3
+unfolding last-tick
+returns-3 c = c .ended .ensures ∙ sym (tick-missed (search needs) (late-at _ _ (search needs) (search needs)))
+
+returns-4 : tie.Need-returns-4
+unfolding last-tick
+returns-4 c =
+    c .ended2 .ensures
+    ∙ sym (tick-met (search needs) (late-none _ (search needs)) (left-none _ (search needs)))
+
+returns-5 : tie.Need-returns-5
+unfolding last-tick
+returns-5 c =
+    sym
+    (tick-idle (search needs) (late-none _ (search needs)) (left-at _ (search needs)) (next-none _ (search needs)))
+
+served-requires : tie.Need-served-requires
+unfolding last-tick
+served-requires c κs = next-served _ _ (search needs) (search needs) (search needs)
+
+returns-6 : tie.Need-returns-6
+unfolding last-tick
+returns-6 c =
+    c .served .ensures
+    ∙ sym
+    (tick-unit
+    (search needs)
+    (late-none _ (search needs))
+    (left-at _ (search needs))
+    (next-at _ _ (search needs) (search needs)))
+
+pub tick-spec : {M : Type 1} → statement M
+tick-spec =
+    tie.close
+    (tie.spec
+    (λ c. search needs)
+    returns
+    returns-2
+    (λ c κs. search needs)
+    (λ c κs. search needs)
+    returns-3
+    (λ c κs. search needs)
+    (λ c κs. search needs)
+    returns-4
+    (λ c κs. search needs)
+    (λ c. search needs)
+    returns-5
+    served-requires
+    returns-6)

@@ -1,3 +1,4 @@
 pub mod Rule
 pub mod Loaded
 pub mod Scan
+pub mod Written

@@ -1,12 +1,18 @@
 -- The bench as it is loaded, and what its run answers: document 01, "The replay bench".
 -- Assumes nothing.
 use mathlib.Core.Bool.{cond}
+use mathlib.Core.Path.{_≡_}
 use mathlib.Core.List.{List}
-use Prim.Native.Nat.{ℕ, suc}
+use Prim.Native.Nat.{ℕ, suc, _+_}
 use lib.Dec.{ltb}
 use Rattle.laws.specs.Sums.{tabulate}
+use Rattle.model.specs.Task.{Table}
 use Rattle.model.specs.Jobs.{Jobs}
 use Rattle.model.specs.Replay.{Replayed, missed, all-met, last-tick}
+use Rattle.table.specs.Bytes.{records}
+use Rattle.requests.specs.declared.entry.Entry.{Entry}
+use Rattle.requests.specs.Accepted.{Accepted}
+use Rattle.bench.specs.declared.load.Slot.{Slot}
 use Rattle.bench.specs.declared.state.Bench.{Bench}
 use Rattle.bench.specs.declared.state.Outcome.{Outcome}
 use Rattle.bench.specs.declared.state.Outcome.the-variants.{Running, Missed, AllMet}
@@ -26,6 +32,22 @@ loaded jobs =
       task = slots-of (jobs .count) (jobs .task);
       outcome = Running;
     }
+
+-- nothing to do
+abbrev pub no-jobs : Jobs
+no-jobs = record { count = 0; task = λ k. 0; arrive = λ k. 0; due = λ k. 0; amount = λ k. 0 }
+
+-- what request x puts into its slot: the amount, deadline, arrival and task of its job
+pub record Slot-is (table : Table) (x : Entry) (r : Slot) : Type 0 where
+  pub left-is : r .left ≡ table .task (x .task) .E (x .frame)
+  pub due-is : r .due ≡ x .arrival + table .task (x .task) .D (x .frame)
+  pub arrive-is : r .arrive ≡ x .arrival
+  pub task-is : r .task ≡ x .task
+
+-- the bytes are a request list of the table, of n records
+pub record Listed (table : Table) (list : List ℕ) (n : ℕ) : Type 0 where
+  pub accepted : Accepted table list
+  pub count-is : n ≡ records list
 
 -- "All runs end by tick 131,070": a state at that tick is still taken
 unfoldable pub run-whole : Bench → Bench

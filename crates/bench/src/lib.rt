@@ -1,5 +1,7 @@
 // The replay bench: earliest deadline first, tick by tick.
+pub mod load;
 mod next;
+pub mod replay;
 mod scan;
 pub mod state;
 mod tick;

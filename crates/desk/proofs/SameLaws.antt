@@ -8,8 +8,9 @@ use lib.Dec.{T, eqb, eqb→eq}
 use lib.IntN.{ℤ, pos, negsuc}
 use Rattle.laws.proofs.Every.{both-left, both-right}
 use Rattle.model.specs.Verdict.{Verdict, overloaded, fits, undecided}
+use Rattle.model.specs.Replay.{Replayed, missed, all-met}
 use Rattle.model.specs.Answer.{Answer, answered, refused}
-use Rattle.desk.specs.Named.{Said, says-number, says-verdict}
+use Rattle.desk.specs.Named.{Said, says-number, says-verdict, says-replay}
 
 unfoldable pub same-int : ℤ → ℤ → Bool
 same-int (pos a) (pos b) = eqb a b
@@ -72,6 +73,20 @@ same-verdict-is (fits w m t) undecided h = absurd h
 same-verdict-is undecided (overloaded u n k) h = absurd h
 same-verdict-is undecided (fits v n u) h = absurd h
 
+unfoldable pub same-replay : Replayed → Replayed → Bool
+same-replay (missed t i) (missed u j) = eqb t u && eqb i j
+same-replay (all-met t) (all-met u) = eqb t u
+same-replay (missed t i) (all-met u) = false
+same-replay (all-met t) (missed u j) = false
+
+same-replay-is : (a b : Replayed) → T (same-replay a b) → a ≡ b
+unfolding same-replay
+same-replay-is (missed t i) (missed u j) h =
+    ap₂ missed (eqb→eq t u (both-left (eqb t u) (eqb i j) h)) (eqb→eq i j (both-right (eqb t u) (eqb i j) h))
+same-replay-is (all-met t) (all-met u) h = ap all-met (eqb→eq t u h)
+same-replay-is (missed t i) (all-met u) h = absurd h
+same-replay-is (all-met t) (missed u j) h = absurd h
+
 unfoldable pub same-answer : {A : Type 0} → (A → A → Bool) → Answer A → Answer A → Bool
 same-answer same (answered a) (answered b) = same a b
 same-answer same (answered a) (refused n i) = false
@@ -90,12 +105,22 @@ same-answer-is same is (refused m j) (refused n i) h =
 unfoldable pub same-said : Said → Said → Bool
 same-said (says-number a) (says-number b) = same-answer eqb a b
 same-said (says-verdict a) (says-verdict b) = same-answer same-verdict a b
+same-said (says-replay a) (says-replay b) = same-answer same-replay a b
 same-said (says-number a) (says-verdict b) = false
+same-said (says-number a) (says-replay b) = false
 same-said (says-verdict a) (says-number b) = false
+same-said (says-verdict a) (says-replay b) = false
+same-said (says-replay a) (says-number b) = false
+same-said (says-replay a) (says-verdict b) = false
 
 pub same-said-is : (x y : Said) → T (same-said x y) → x ≡ y
 unfolding same-said
 same-said-is (says-number a) (says-number b) h = ap says-number (same-answer-is eqb eqb→eq a b h)
 same-said-is (says-verdict a) (says-verdict b) h = ap says-verdict (same-answer-is same-verdict same-verdict-is a b h)
+same-said-is (says-replay a) (says-replay b) h = ap says-replay (same-answer-is same-replay same-replay-is a b h)
 same-said-is (says-number a) (says-verdict b) h = absurd h
+same-said-is (says-number a) (says-replay b) h = absurd h
 same-said-is (says-verdict a) (says-number b) h = absurd h
+same-said-is (says-verdict a) (says-replay b) h = absurd h
+same-said-is (says-replay a) (says-number b) h = absurd h
+same-said-is (says-replay a) (says-verdict b) h = absurd h

@@ -5,23 +5,27 @@ use Prim.Native.Nat.{ℕ}
 use lib.IntN.{pos, negsuc}
 use lib.ListN.{replicate}
 use Rattle.model.specs.Verdict.{Verdict, overloaded, fits}
+use Rattle.model.specs.Replay.{Replayed, missed}
 use Rattle.model.specs.Answer.{Answer, answered}
-use Rattle.desk.specs.Questions.{demand-asked, verdict-asked}
+use Rattle.desk.specs.Questions.{demand-asked, verdict-asked, replay-asked}
 
 -- ---- what is asked, and what is said
 
 pub data Question : Type 0 where
   demand-of : (task t : ℕ) → Question
   verdict-on : Question
+  replay-with : (list : List ℕ) → Question
 
 pub data Said : Type 0 where
   says-number : Answer ℕ → Said
   says-verdict : Answer Verdict → Said
+  says-replay : Answer Replayed → Said
 
 -- what the rules say
 abbrev pub said : List ℕ → Question → Said
 said s (demand-of task t) = says-number (demand-asked s task t)
 said s verdict-on = says-verdict (verdict-asked s)
+said s (replay-with list) = says-replay (replay-asked s list)
 
 pub record Row : Type 0 where
   pub bytes : List ℕ
@@ -46,6 +50,14 @@ sporadic task e d p = rec task 1 e d p
 unfoldable pub B : List ℕ
 B = A ++ sporadic 1 1 2 10
 
+-- one request: task, frame, an arrival below 256
+abbrev req : ℕ → ℕ → ℕ → List ℕ
+req task frame arrival = task ∷ frame ∷ 0 ∷ 0 ∷ arrival ∷ 0 ∷ 0 ∷ 0 ∷ []
+
+-- "Whole list, 16 bytes: 00 01 00 00 00 00 00 00 01 00 00 00 00 00 00 00."
+unfoldable pub B-list : List ℕ
+B-list = req 0 1 0 ++ req 1 0 0
+
 -- ---- the rows
 
 abbrev of-A : ℕ → ℕ → Row
@@ -64,6 +76,8 @@ named =
     ∷ judged (A ++ sporadic 1 1 4 12) (fits 10 (pos 0) 2)
     -- K4 B: overloaded at 2, margin -1, starts 1, 0, then zeros
     ∷ judged B (overloaded 2 (negsuc 0) (1 ∷ replicate 15 0))
+    -- K5 B's list replayed: miss at tick 2, record 1
+    ∷ record { bytes = B; question = replay-with B-list; says = says-replay (answered (missed 2 1)) }
     -- K6 (1,1,1) fits: window 1, margin 0 at 1; two of them: overloaded at 1, margin -1
     ∷ judged (sporadic 0 1 1 1) (fits 1 (pos 0) 1)
     ∷ judged (sporadic 0 1 1 1 ++ sporadic 1 1 1 1) (overloaded 1 (negsuc 0) (replicate 16 0))

@@ -1,5 +1,6 @@
 -- The meaning of each question on raw bytes: document 01, "What the desk computes" and "When the desk says no".
--- "Tables are tested first .. Then 7 (for one task's demand or work, 9 before 7)."
+-- "Tables are tested first .. Then 7 (for one task's demand or work, 9 before 7) .. or, for a list, length, then records
+-- in order, in each record 10 before 11."
 -- Assumes nothing.
 use Prim.Native.Nat.{ℕ}
 use mathlib.Core.Bool.{Bool, cond}
@@ -11,10 +12,18 @@ use Rattle.model.specs.Task.{Task, Table}
 use Rattle.model.specs.Demand.{demand, work, margin}
 use Rattle.model.specs.Verdict.{horizon, closing-window, Verdict, verdict}
 use Rattle.model.specs.Answer.{Answer, answered, refused}
+use Rattle.model.specs.Request.{Requests}
+use Rattle.model.specs.Jobs.{jobs-of}
+use Rattle.model.specs.Replay.{Replayed}
 use Rattle.table.specs.declared.reader.Reading.{Reading}
 use Rattle.table.specs.declared.reader.Reading.the-variants as reading
 use Rattle.table.specs.Reader.{reading-of}
 use Rattle.table.specs.TableOf.{table-of}
+use Rattle.requests.specs.declared.reader.Checked.{Checked}
+use Rattle.requests.specs.declared.reader.Checked.the-variants as checked
+use Rattle.requests.specs.Entry.{list-of}
+use Rattle.requests.specs.Reader.{check-of}
+use Rattle.bench.specs.Loaded.{replay-of}
 
 -- the table's own refusal first; else what is said of a table
 abbrev pub after-reading : {A : Type 0} → Reading → Answer A → Answer A
@@ -54,3 +63,21 @@ window-asked s = on-table s (λ table. answered (closing-window horizon table))
 
 unfoldable pub verdict-asked : List ℕ → Answer Verdict
 verdict-asked s = on-table s (λ table. answered (verdict horizon table))
+
+-- ---- request lists
+
+-- the list's own refusal, 10 or 11; else what is said of a list
+abbrev pub after-check : {A : Type 0} → Checked → Answer A → Answer A
+after-check (checked.Legal n) said = said
+after-check (checked.Refused r) said = refused (r .number) (r .index)
+
+abbrev pub on-list : {A : Type 0} → List ℕ → List ℕ → (Table → Requests → A) → Answer A
+on-list s list ask =
+    on-table s (λ table. after-check (check-of table list) (answered (ask table (list-of list))))
+
+-- how many requests a legal list has
+unfoldable pub list-asked : List ℕ → List ℕ → Answer ℕ
+list-asked s list = on-list s list (λ table requests. requests .count)
+
+unfoldable pub replay-asked : List ℕ → List ℕ → Answer Replayed
+replay-asked s list = on-list s list (λ table requests. replay-of (jobs-of table requests))

@@ -5,9 +5,13 @@ use lib.IntN.{ℤ}
 use lib.ListN.{replicate}
 use Rattle.laws.specs.Search.{Found}
 use Rattle.model.specs.Verdict.{Verdict}
+use Rattle.model.specs.Replay.{Replayed}
 use Rattle.model.specs.Answer.{Answer, answered, refused}
 use Rattle.table.specs.declared.reader.Refusal.{Refusal}
 use Rattle.verdict.specs.Written.{closing-of, judged-of}
+use Rattle.requests.specs.declared.reader.Checked.{Checked}
+use Rattle.requests.specs.declared.reader.Checked.the-variants as checked
+use Rattle.bench.specs.Written.{replayed-of}
 use Rattle.desk.specs.declared.Amount.{Amount}
 use Rattle.desk.specs.declared.Amount.the-variants as amount
 use Rattle.desk.specs.declared.Spare.{Spare}
@@ -15,6 +19,8 @@ use Rattle.desk.specs.declared.Spare.the-variants as spare
 use Rattle.desk.specs.declared.Window.{Window}
 use Rattle.desk.specs.declared.Window.the-variants as window
 use Rattle.desk.specs.declared.Judgement.the-variants as judgement
+use Rattle.desk.specs.declared.Replay.{Replay}
+use Rattle.desk.specs.declared.Replay.the-variants as replay
 use Rattle.desk.specs.declared.Judged.{Judged}
 
 -- "Every refusal is a refusal number with the record index"
@@ -37,3 +43,11 @@ abbrev pub judgement-of : Answer Verdict → Judged
 judgement-of (answered v) = record { judgement = judgement.Is (judged-of v .verdict); starts = judged-of v .starts }
 judgement-of (refused number index) =
     record { judgement = judgement.Refused (refusal number index); starts = replicate 16 0 }
+
+abbrev pub checked-of : Answer ℕ → Checked
+checked-of (answered n) = checked.Legal n
+checked-of (refused number index) = checked.Refused (refusal number index)
+
+abbrev pub replay-in : Answer Replayed → Replay
+replay-in (answered r) = replay.Is (replayed-of r)
+replay-in (refused number index) = replay.Refused (refusal number index)

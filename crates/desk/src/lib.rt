@@ -2,6 +2,8 @@
 // An answer is `Is` the value, or `Refused` with the refusal's number and record index.
 mod good;
 
+use bench::replay::Replayed;
+use requests::reader::Checked;
 use table::reader::Reading;
 use table::reader::Refusal;
 use verdict::judge::Verdict;
@@ -29,6 +31,11 @@ pub enum Window {
 
 pub enum Judgement {
     Is(Verdict),
+    Refused(Refusal),
+}
+
+pub enum Replay {
+    Is(Replayed),
     Refused(Refusal),
 }
 

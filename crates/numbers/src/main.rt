@@ -1,21 +1,22 @@
 // Asks the desk the cases of a text file, one a line, and says its answers.
-// A line is NAME QUESTION NUMBERS TABLE: the table in hex, or - for the empty one. Words stand apart by one or more
-// spaces. Lines with no word, and lines whose first word begins with #, are passed over. A line that cannot be read is
-// said and stops nothing.
+// A line is NAME QUESTION NUMBERS TABLE, and LIST where the question has one: bytes in hex, or - for none. Words stand
+// apart by one or more spaces. Lines with no word, and lines whose first word begins with #, are passed over. A line
+// that cannot be read is said and stops nothing.
 mod question;
 mod say;
 
 use libc::STDERR_FILENO;
 use question::Case;
 use question::Kind;
+use question::Lent;
 use question::Parsed;
 use text::Sort;
 ghost use Prim.Native.Nat.{_≤_};
 ghost use lib.ListN.{length};
-ghost use Rattle.numbers.specs.Case.{table-size};
+ghost use Rattle.numbers.specs.Case.{lent-size, table-size, place-after};
 
 // Asks the desk, and says what it answers.
-fn answer(kind: Kind, first: u64, second: u64, table: &[u8]) {
+fn answer(kind: Kind, first: u64, second: u64, table: &[u8], list: &[u8]) {
     match kind {
         Kind::Read => say::say_reading(desk::read_table(table)),
         Kind::Verdict => say::say_judged(desk::judge(table)),
@@ -23,25 +24,47 @@ fn answer(kind: Kind, first: u64, second: u64, table: &[u8]) {
         Kind::Margin => say::say_margin(desk::margin(table, first)),
         Kind::Demand => say::say_amount(b"demand ", desk::demand(table, first, second)),
         Kind::Work => say::say_amount(b"work ", desk::work(table, first, second)),
+        Kind::List => say::say(b"later"),
+        Kind::Replay => say::say(b"later"),
     }
 }
 
-fn answer_case(name: &[u8], case: Case, table: &[u8])
-    requires { ⌜ case .size ≤ length (now table) ⌝ }
+fn answer_case(name: &[u8], case: Case, table: &[u8], list: &[u8], many: usize)
+    requires { ⌜ (case .size ≤ length (now table)) × (many ≤ length (now list)) ⌝ }
 {
     let kind = case.kind;
     let size = case.size;
     say::say(name);
     say::say(b": ");
-    answer(kind, case.first, case.second, &table[..size]);
+    answer(kind, case.first, case.second, &table[..size], &list[..many]);
     say::say(b"\n");
 }
 
-fn answer_parsed(number: u64, name: &[u8], parsed: Parsed, table: &[u8])
-    requires { ⌜ table-size parsed ≤ length (now table) ⌝ }
+fn answer_lent(number: u64, name: &[u8], case: Case, table: &[u8], list: &[u8], lent: Lent)
+    requires { ⌜ (case .size ≤ length (now table)) × (lent-size lent ≤ length (now list)) ⌝ }
+{
+    match lent {
+        Lent::Bytes(many) => answer_case(name, case, table, list, many),
+        Lent::Not(why) => say::say_problem(number, why),
+    }
+}
+
+// Reads the list that follows a case's table, where its question has one, and answers.
+fn answer_list(number: u64, line: &[u8], name: &[u8], case: Case, table: &[u8])
+    requires { ⌜ (case .size ≤ length (now table)) × (case .next ≤ length (now line)) ⌝ }
+{
+    let mut space = [0u8; 2048];
+    let list: &mut [u8] = &mut space;
+    let kind = case.kind;
+    let lent = question::last_at(question::has_list(kind), line, case.next, list);
+    answer_lent(number, name, case, table, list, lent);
+}
+
+fn answer_parsed(number: u64, line: &[u8], name: &[u8], parsed: Parsed, table: &[u8])
+    requires { ⌜ (table-size parsed ≤ length (now table)) × (place-after parsed ≤ length (now line)) ⌝ }
 {
     match parsed {
-        Parsed::Good(case) => answer_case(name, case, table),
+        Parsed::Good(case) => answer_list(number, line, name, case, table),
         Parsed::Bad(why) => say::say_problem(number, why),
     }
 }
@@ -59,7 +82,7 @@ fn answer_line(line: &[u8], number: u64) {
     let mut space = [0u8; 2048];
     let table: &mut [u8] = &mut space;
     let parsed = question::read_case(line, to, table);
-    answer_parsed(number, &line[from..to], parsed, table);
+    answer_parsed(number, line, &line[from..to], parsed, table);
 }
 
 // A last line without a line feed counts too.
@@ -101,16 +124,25 @@ fn answer_file(path: &[u8]) {
     answer_lines(&buf[..got]);
 }
 
-fn main() {
-    if os::arg_count() < 2 {
-        answer_file(b"cases.txt");
-        return;
-    }
+fn answer_argument(k: usize) {
     let mut path = io::buffer();
-    let n = os::arg(1, &mut path);
+    let n = os::arg(k, &mut path);
     if os::errno() != 0 {
-        os::fail(b"the first argument");
+        os::fail(b"an argument");
         return;
     }
     answer_file(&path[..n]);
+}
+
+fn main() {
+    let count = os::arg_count();
+    if count < 2 {
+        answer_file(b"cases.txt");
+        return;
+    }
+    let mut k: usize = 1;
+    while k < count {
+        answer_argument(k);
+        k += 1;
+    }
 }

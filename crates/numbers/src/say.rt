@@ -2,6 +2,7 @@
 ghost use mathlib.Core.Path.{_≡_};
 ghost use lib.IntN.{natAbs};
 use crate::question::Problem;
+use crate::question::What;
 use desk::Amount;
 use desk::Judged;
 use desk::Judgement;
@@ -142,6 +143,18 @@ pub fn say_judged(j: Judged) {
     }
 }
 
+fn say_what(what: What) {
+    match what {
+        What::Table => say(b"the table"),
+        What::List => say(b"the list"),
+    }
+}
+
+fn say_of(what: What, words: &[u8]) {
+    say_what(what);
+    say(words);
+}
+
 // What is wrong with a line, by the line's number in the file.
 pub fn say_problem(line: u64, why: Problem) {
     say(b"line ");
@@ -150,10 +163,10 @@ pub fn say_problem(line: u64, why: Problem) {
     match why {
         Problem::NoQuestion => say(b"no such question"),
         Problem::NoNumber => say(b"a number is missing or not a number"),
-        Problem::NoTable => say(b"the table is missing"),
-        Problem::NotHex => say(b"the table is not hex"),
-        Problem::TooLong => say(b"the table is too long for the buffer"),
-        Problem::Follows => say(b"something follows the table"),
+        Problem::Missing(what) => say_of(what, b" is missing"),
+        Problem::NotHex(what) => say_of(what, b" is not hex"),
+        Problem::TooLong(what) => say_of(what, b" is too long for the buffer"),
+        Problem::Follows => say(b"something follows the last word"),
     }
     say(b"\n");
 }

@@ -1,4 +1,4 @@
--- `answer_case` is safe: the table's size lies within what is lent.
+-- `answer_case` is safe: the table and the list lie within what is lent.
 -- Assumes nothing.
 use mathlib.Core.Path.{sym}
 use lib.Seq.{length-take-le}
@@ -9,6 +9,9 @@ use Rattle.numbers.proofs.answer_case.Tie as tie
 slice-aggregate-answer : tie.Need-slice-aggregate-answer
 slice-aggregate-answer c = sym (length-take-le _ _ (search needs))
 
+slice-aggregate-answer-2 : tie.Need-slice-aggregate-answer-2
+slice-aggregate-answer-2 c = sym (length-take-le _ _ (search needs))
+
 pub answer-case-spec : {M : Type 1} → statement M
 answer-case-spec =
     tie.close
@@ -17,6 +20,7 @@ answer-case-spec =
     (λ c. search needs)
     (λ c κs. search needs)
     slice-aggregate-answer
+    slice-aggregate-answer-2
     (λ c κs. search needs)
     (λ c. search needs)
     (λ c κs. search needs)

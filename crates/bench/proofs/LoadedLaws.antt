@@ -1,0 +1,35 @@
+-- The loaded arrays: one number for each job, and 0 past the last.
+-- Assumes nothing.
+use mathlib.Core.Path.{_≡_, _∙_}
+use mathlib.Core.Logic.{inl, inr}
+use mathlib.Core.Bool.{cond}
+use Prim.Native.Nat.{ℕ, _≤_, _<_}
+use native.Mathlib.Omega.{arith}
+use lib.Dec.{ltb}
+use lib.ListN.{length, getD, List·getD-eq-default}
+use borrow.Author.Tests.{lt-ltb, le-ltb}
+use Rattle.laws.specs.Sums.{tabulate}
+use Rattle.laws.proofs.Cases.{lt-or-le}
+use Rattle.laws.proofs.Fill.{tabulate-length, tabulate-at}
+use Rattle.bench.specs.Rule.{slots}
+use Rattle.bench.specs.Loaded.{slots-of}
+
+module _ (count : ℕ) (f : ℕ → ℕ) where
+  slot : ℕ → ℕ
+  slot k = cond (ltb k count) (f k) 0
+
+  pub slots-length : length (slots-of count f) ≡ slots
+  unfolding slots-of slot
+  slots-length = tabulate-length slots slot
+
+  pub slots-at : count ≤ slots → (k : ℕ) → k < count → getD (slots-of count f) k 0 ≡ f k
+  unfolding slots-of slot
+  slots-at fits k inside = tabulate-at slots slot k (omega arith) ∙ rw (lt-ltb k count inside)
+
+  pub slots-past : (k : ℕ) → count ≤ k → getD (slots-of count f) k 0 ≡ 0
+  unfolding slots-of slot
+  slots-past k past =
+      elim (lt-or-le k slots) [
+        | inl less ↦ tabulate-at slots slot k less ∙ rw (le-ltb k count past)
+        | inr more ↦ List·getD-eq-default (tabulate slots slot) 0 (rw slots-length more)
+      ]

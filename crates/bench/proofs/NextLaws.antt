@@ -52,4 +52,7 @@ module _ {jobs : Jobs} {t i best : ℕ} (tried : Tried jobs t i best) where
           tried-keeps e = longer more (ap (place-or slots) (sym (pick-keeps _ _ i best is-ready found (sym told ∙ e))))
 
   pub tried-end : slots ≤ i → jobs .count ≡ slots → best ≡ place-or slots (next-of jobs t)
-  tried-end over count = tried .best-is ∙ ap (λ n. place-or slots (pick passes (sooner jobs) n)) (omega (arith, tried .within))
+  tried-end over count = tried .best-is ∙ ap (λ n. place-or slots (pick passes (sooner jobs) n)) all
+    where
+      all : i ≡ jobs .count
+      all = omega (arith, tried .within)

@@ -5,7 +5,7 @@ use Prim.Native.Nat.{ℕ, _≤_, _<_}
 use lib.Dec.{leb}
 use lib.ListN.{getD}
 use borrow.Author.Tests.{ltb-true}
-use Rattle.laws.specs.Search.{Found, at, nowhere, least-from, place-or}
+use Rattle.laws.specs.Search.{at, nowhere, least-from, place-or}
 use Rattle.laws.proofs.Every.{and-true-right}
 use Rattle.laws.proofs.PlaceLaws.{place-at, place-none, least-at, least-none}
 use Rattle.model.specs.Replay.{last-tick}
@@ -50,8 +50,8 @@ module _ (b : Bench) where
   next-none = place-none _ slots _ (pick-below _ _ slots) refl
 
   -- "unfinished": what is served has a unit left
-  pub next-served : (i : ℕ) → i ≡ next-place → i < slots → b .tick ≤ last-tick → Servable b i
-  next-served i answer below in-time = record { inside = below; undone = undone; in-time = in-time }
+  pub next-servable : (i : ℕ) → i ≡ next-place → i < slots → b .tick ≤ last-tick → Servable b i
+  next-servable i answer below in-time = record { inside = below; undone = undone; in-time = in-time }
     where
       undone : 0 < getD (b .left) i 0
       undone =

@@ -1,11 +1,9 @@
 -- The tick in laws, one for each of the rule's sentences, and the run: document 01, "The replay bench".
 -- Assumes nothing.
-use mathlib.Core.Bool.{Bool, true, false, cond}
 use mathlib.Core.Path.{_≡_, refl, _∙_, ap}
 use Prim.Native.Nat.{ℕ, zero, suc, _≤_, _<_}
-use lib.Dec.{ltb}
 use borrow.Author.Tests.{lt-ltb, le-ltb}
-use Rattle.laws.specs.Search.{Found, at, nowhere}
+use Rattle.laws.specs.Search.{at, nowhere}
 use Rattle.model.specs.Replay.{last-tick}
 use Rattle.bench.specs.declared.state.Bench.{Bench}
 use Rattle.bench.specs.declared.state.Outcome.{Outcome}

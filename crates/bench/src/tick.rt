@@ -13,8 +13,8 @@ ghost use Rattle.bench.specs.Scan.{Servable};
 ghost use Rattle.bench.specs.Loaded.{run-whole};
 
 impl Bench {
-    // The state with another outcome.
-    fn ended(self, outcome: Outcome) -> Bench
+    // The state as it is, with an outcome.
+    fn stop(self, outcome: Outcome) -> Bench
         ensures { λ r. ⌜ r ≡ with-outcome self outcome ⌝ }
     {
         let left = self.left;
@@ -32,11 +32,12 @@ impl Bench {
     }
 
     // One unit to request k, and the next tick.
-    fn served(mut self, k: usize) -> Bench
+    fn serve(mut self, k: usize) -> Bench
         requires { ⌜ Servable self k ⌝ }
         ensures { λ r. ⌜ r ≡ moved-on self (less-one (self .left) (at k)) ⌝ }
     {
-        self.left[k] -= 1;
+        let had = self.left[k];
+        self.left[k] = had - 1;
         self.tick += 1;
         self
     }
@@ -54,17 +55,17 @@ impl Bench {
         }
         let late = first_late(&self.left, &self.due, t);
         if late < SLOTS {
-            return self.ended(Outcome::Missed(late));
+            return self.stop(Outcome::Missed(late));
         }
         if SLOTS <= first_left(&self.left) {
-            return self.ended(Outcome::AllMet);
+            return self.stop(Outcome::AllMet);
         }
         let next = next_of(&self.left, &self.due, &self.arrive, &self.task, t);
         if SLOTS <= next {
             self.tick = t + 1;
             return self;
         }
-        self.served(next)
+        self.serve(next)
     }
 
     // At most one tick for each of 0 to LAST_TICK.

@@ -20,12 +20,14 @@ loop-holds c = seeking-start _ _ _
 
 returns : tie.Need-returns Inv-loop μ-loop
 returns c =
-    let at-loop = c .before .before .before .before in
+    let read = c .before .before in
+    let at-loop = read .before .before in
     ap (place-or slots) (seeking-hit (at-loop .loop .inv) (search needs) (c .if1 .taken))
 
 loop-again : tie.Need-loop-again Inv-loop μ-loop
 loop-again c =
-    let at-loop = c .before .before .before .before in
+    let read = c .before .before in
+    let at-loop = read .before .before in
     seeking-on (at-loop .loop .inv) (search needs) (c .if1 .left)
 
 returns-2 : tie.Need-returns-2 Inv-loop μ-loop

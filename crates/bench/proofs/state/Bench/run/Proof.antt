@@ -28,7 +28,8 @@ loop-less c = search needs
 loop-again : tie.Need-loop-again Inv-loop μ-loop
 unfolding last-tick
 loop-again c =
-    let at-loop = c .before .before .before .before in
+    let going = c .before .before in
+    let at-loop = going .before .before in
     ticking-on (at-loop .loop .inv) (search needs) (c .tick .ensures)
 
 returns-2 : tie.Need-returns-2 Inv-loop μ-loop

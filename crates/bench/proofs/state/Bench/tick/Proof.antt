@@ -3,7 +3,7 @@
 use mathlib.Core.Path.{_∙_, sym}
 use borrow.Author.Needs.{needs}
 use Rattle.model.specs.Replay.{last-tick}
-use Rattle.bench.proofs.ScanLaws.{late-at, late-none, left-at, left-none, next-at, next-none, next-served}
+use Rattle.bench.proofs.ScanLaws.{late-at, late-none, left-at, left-none, next-at, next-none, next-servable}
 use Rattle.bench.proofs.TickLaws.{tick-past, tick-missed, tick-met, tick-idle, tick-unit}
 use Rattle.bench.proofs.Stopped.{tick-stopped}
 use Rattle.bench.proofs.state.Bench.tick.Statement.{statement}
@@ -18,12 +18,12 @@ returns-2 c = sym (tick-past (search needs))
 
 returns-3 : tie.Need-returns-3
 unfolding last-tick
-returns-3 c = c .ended .ensures ∙ sym (tick-missed (search needs) (late-at _ _ (search needs) (search needs)))
+returns-3 c = c .stop .ensures ∙ sym (tick-missed (search needs) (late-at _ _ (search needs) (search needs)))
 
 returns-4 : tie.Need-returns-4
 unfolding last-tick
 returns-4 c =
-    c .ended2 .ensures
+    c .stop2 .ensures
     ∙ sym (tick-met (search needs) (late-none _ (search needs)) (left-none _ (search needs)))
 
 returns-5 : tie.Need-returns-5
@@ -32,14 +32,14 @@ returns-5 c =
     sym
     (tick-idle (search needs) (late-none _ (search needs)) (left-at _ (search needs)) (next-none _ (search needs)))
 
-served-requires : tie.Need-served-requires
+serve-requires : tie.Need-serve-requires
 unfolding last-tick
-served-requires c κs = next-served _ _ (search needs) (search needs) (search needs)
+serve-requires c κs = next-servable _ _ (search needs) (search needs) (search needs)
 
 returns-6 : tie.Need-returns-6
 unfolding last-tick
 returns-6 c =
-    c .served .ensures
+    c .serve .ensures
     ∙ sym
     (tick-unit
     (search needs)
@@ -63,5 +63,5 @@ tick-spec =
     (λ c κs. search needs)
     (λ c. search needs)
     returns-5
-    served-requires
+    serve-requires
     returns-6)

@@ -1,4 +1,4 @@
--- How far the scan for the next request has come, and what it finds.
+-- The scan for the next request: the order of two slots, how far it has come, and what a unit may go to.
 -- Assumes nothing.
 use mathlib.Core.Path.{_≡_}
 use mathlib.Core.List.{List}

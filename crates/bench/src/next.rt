@@ -50,6 +50,7 @@ fn better<'a>(
     best
 }
 
+// "the arrived, unfinished request with the earliest deadline", over all the slots.
 pub fn next_of<'a>(
     left: &'a [u32; SLOTS],
     due: &'a [u32; SLOTS],

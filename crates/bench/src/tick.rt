@@ -42,6 +42,7 @@ impl Bench {
         self
     }
 
+    // "Each tick takes a bench state and hands back the next."
     pub fn tick(mut self) -> Bench
         ensures { λ r. ⌜ r ≡ tick-of self ⌝ }
     {
@@ -68,7 +69,7 @@ impl Bench {
         self.serve(next)
     }
 
-    // At most one tick for each of 0 to LAST_TICK.
+    // "All runs end by tick 131,070": a tick for each of 0 to LAST_TICK is enough.
     pub fn run(self) -> Bench
         ensures { λ r. ⌜ r ≡ run-whole self ⌝ }
     {

@@ -25,3 +25,11 @@ eq-or-not a b = which (eqb a b) refl
     which : (t : Bool) → eqb a b ≡ t → (a ≡ b) ⊎ (a ≡ b → ⊥)
     which true e = inl (eqb-true a b e)
     which false e = inr (eqb-false a b e)
+
+-- neither of two numbers is the lower
+pub neither-lower : (a b : ℕ) → (a < b → ⊥) → (b < a → ⊥) → a ≡ b
+neither-lower a b not-less not-more =
+    elim (lt-or-le a b) [
+      | inl less ↦ absurd (not-less less)
+      | inr most ↦ elim (lt-or-le b a) [ inl more ↦ absurd (not-more more) | inr least ↦ omega arith ]
+    ]

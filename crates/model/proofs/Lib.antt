@@ -8,3 +8,9 @@ pub mod Walking
 pub mod StartLaws
 pub mod VerdictLaws
 pub mod PickLaws
+pub mod OrderLaws
+pub mod PickRight
+pub mod PickSame
+pub mod MachineLaws
+pub mod ReplayLaws
+pub mod JobsSame

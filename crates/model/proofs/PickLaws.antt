@@ -34,12 +34,12 @@ module _ (test : ℕ → Bool) (before : Order) where
 
   -- ---- what is picked passes, and is below the end
 
-  pub record Picked (n b : ℕ) : Type 0 where
+  pub record Passing (n b : ℕ) : Type 0 where
     pub below : b < n
     pub passes : test b ≡ true
 
   abbrev Right : ℕ → Found → Type 0
-  Right n (at b) = Picked n b
+  Right n (at b) = Passing n b
   Right n nowhere = Unit {0}
 
   longer : (n : ℕ) (r : Found) → Right n r → Right (suc n) r
@@ -63,7 +63,7 @@ module _ (test : ℕ → Bool) (before : Order) where
       which true passes rest = rw (pick-tries n passes) (contest n passes (pick test before n) rest)
       which false fails rest = rw (pick-skips n fails) (longer n (pick test before n) rest)
 
-  pub pick-is : (n b : ℕ) → pick test before n ≡ at b → Picked n b
+  pub pick-is : (n b : ℕ) → pick test before n ≡ at b → Passing n b
   pick-is n b found = subst (Right n) found (right n)
 
   pub pick-below : (n b : ℕ) → pick test before n ≡ at b → b < n

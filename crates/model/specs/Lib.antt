@@ -8,3 +8,4 @@ pub mod Request
 pub mod Jobs
 pub mod Machine
 pub mod Replay
+pub mod Tick

@@ -1,0 +1,146 @@
+-- The machine tick by tick: at most one unit a tick, and only to an arrived, unfinished job that none such precedes.
+-- Assumes nothing.
+use mathlib.Core.Path.{_≡_, refl, sym, _∙_}
+use mathlib.Core.Logic.{inl, inr}
+use mathlib.Core.Bool.{Bool, true, false, _&&_, false≢true}
+use Prim.Native.Nat.{ℕ, zero, suc, _+_, _≤_, _<_}
+use native.Mathlib.Omega.{arith}
+use native.Mathlib.Nat.{le-refl, le-trans}
+use native.Mathlib.Decide.{ℕ-discrete}
+use lib.Dec.{leb, ltb, eqb}
+use borrow.Author.Tests.{leb-true, ltb-true, le-leb, lt-ltb, eq-eqb, ne-eqb}
+use Rattle.laws.specs.Sums.{only}
+use Rattle.laws.specs.Search.{Found, at, nowhere}
+use Rattle.laws.proofs.Cases.{lt-or-le}
+use Rattle.model.specs.Jobs.{Jobs}
+use Rattle.model.specs.Machine.{Order, ready, chosen, give, left-at}
+use Rattle.model.specs.Tick.{Ready, Gives, One-unit, idle, gives}
+use Rattle.model.proofs.OrderLaws.{Strict}
+use Rattle.model.proofs.PickRight.{Picked, pick-right}
+
+-- ---- any amounts left
+
+module _ (jobs : Jobs) (t : ℕ) (left : ℕ → ℕ) where
+  pub ready-is : (k : ℕ) → k < jobs .count → ready jobs t left k ≡ true → Ready jobs t left k
+  ready-is k inside passes = which (leb (jobs .arrive k) t) (ltb 0 (left k)) refl refl passes
+    where
+      which : (x y : Bool) → leb (jobs .arrive k) t ≡ x → ltb 0 (left k) ≡ y → (x && y) ≡ true → Ready jobs t left k
+      which true true here more passes =
+          record { inside = inside; arrived = leb-true _ _ here; undone = ltb-true _ _ more }
+      which true false here more passes = absurd (false≢true passes)
+      which false y here more passes = absurd (false≢true passes)
+
+  pub is-ready : (k : ℕ) → Ready jobs t left k → ready jobs t left k ≡ true
+  is-ready k r = rw (le-leb _ _ (r .arrived), lt-ltb _ _ (r .undone))
+
+-- one unit less at b, and nowhere else
+module _ (left : ℕ → ℕ) where
+  give-here : (b : ℕ) → 0 < left b → left b ≡ give (at b) left b + 1
+  give-here b some = rw (eq-eqb b b refl) (omega arith)
+
+  give-other : (b k : ℕ) → (k ≡ b → ⊥) → give (at b) left k ≡ left k
+  give-other b k differ = rw (ne-eqb b k (λ e. differ (sym e))) (omega arith)
+
+  gate-most : (x : Bool) → only x 1 ≤ 1
+  gate-most true = le-refl 1
+  gate-most false = omega arith
+
+  pub give-falls : (r : Found) (k : ℕ) → give r left k ≤ left k
+  give-falls (at b) k = omega arith
+  give-falls nowhere k = omega arith
+
+  give-one : (r : Found) (k : ℕ) → left k ≤ give r left k + 1
+  give-one (at b) k = omega (arith, gate-most (eqb b k))
+  give-one nowhere k = omega arith
+
+module _ (jobs : Jobs) (before : Order) (t : ℕ) (left : ℕ → ℕ) where
+  give-unit : (r : Found) → Picked (ready jobs t left) before (jobs .count) r
+      → One-unit jobs before t left (give r left)
+  give-unit nowhere none =
+      idle (record {
+        none = λ k r. false≢true (sym (none k (r .inside)) ∙ is-ready jobs t left k r);
+        same = λ k. refl;
+      })
+  give-unit (at b) first =
+      let here = ready-is jobs t left b (first .inside) (first .passes) in
+      gives b (record {
+        ready = here;
+        none-before = λ j r. first .none-before j (r .inside) (is-ready jobs t left j r);
+        one-less = give-here left b (here .undone);
+        others = give-other left b;
+      })
+
+  -- the machine's tick, from whatever is left
+  pub one-unit : Strict before → One-unit jobs before t left (give (chosen jobs before t left) left)
+  one-unit strict =
+      give-unit (chosen jobs before t left) (pick-right (ready jobs t left) before strict (jobs .count))
+
+-- the same amounts by another name
+pub unit-as : {jobs : Jobs} {before : Order} {t : ℕ} {left next other : ℕ → ℕ} → ((k : ℕ) → other k ≡ next k)
+    → One-unit jobs before t left next → One-unit jobs before t left other
+unit-as named (idle rests) = idle (record { none = rests .none; same = λ k. named k ∙ rests .same k })
+unit-as named (gives k given) =
+    gives k
+    (record {
+      ready = given .ready;
+      none-before = given .none-before;
+      one-less = omega (arith, named k, given .one-less);
+      others = λ j differ. named j ∙ given .others j differ;
+    })
+
+-- a job whose amount changed got the one unit
+pub unit-changed : {jobs : Jobs} {before : Order} {t : ℕ} {left next : ℕ → ℕ} → One-unit jobs before t left next
+    → (k : ℕ) → (next k ≡ left k → ⊥) → Gives jobs before t left next k
+unit-changed (idle rests) k changed = absurd (changed (rests .same k))
+unit-changed (gives b given) k changed =
+    elim (ℕ-discrete k b)
+    [ yes same ↦ rw (sym same) at given | no differ ↦ absurd (changed (given .others k differ)) ]
+
+-- so no two jobs get a unit
+pub gives-one : {jobs : Jobs} {before : Order} {t : ℕ} {left next : ℕ → ℕ} {i j : ℕ}
+    → Gives jobs before t left next i → Gives jobs before t left next j → i ≡ j
+gives-one {i = i} {j = j} one other =
+    elim (ℕ-discrete i j)
+    [ yes same ↦ same | no differ ↦ absurd (omega (arith, one .one-less, other .others i differ)) ]
+
+-- ---- the machine from the jobs' amounts on
+
+module _ (jobs : Jobs) (before : Order) where
+  pub left-start : (k : ℕ) → left-at jobs before 0 k ≡ jobs .amount k
+  unfolding left-at
+  left-start k = refl
+
+  pub left-step : (t k : ℕ) → left-at jobs before (suc t) k
+      ≡ give (chosen jobs before t (left-at jobs before t)) (left-at jobs before t) k
+  unfolding left-at
+  left-step t k = refl
+
+  -- each tick of it
+  pub left-unit : Strict before → (t : ℕ)
+      → One-unit jobs before t (left-at jobs before t) (left-at jobs before (suc t))
+  unfolding left-at
+  left-unit strict t = one-unit jobs before t (left-at jobs before t) strict
+
+  pub left-falls : (t k : ℕ) → left-at jobs before (suc t) k ≤ left-at jobs before t k
+  left-falls t k =
+      let left = left-at jobs before t in
+      rw (left-step t k) (give-falls left (chosen jobs before t left) k)
+
+  pub left-one : (t k : ℕ) → left-at jobs before t k ≤ left-at jobs before (suc t) k + 1
+  left-one t k =
+      let left = left-at jobs before t in
+      rw (left-step t k) (give-one left (chosen jobs before t left) k)
+
+  pub left-mono : (t u k : ℕ) → t ≤ u → left-at jobs before u k ≤ left-at jobs before t k
+  left-mono t zero k later = rw (none later) (le-refl _)
+    where
+      none : t ≤ 0 → t ≡ 0
+      none later = omega arith
+  left-mono t (suc u) k later =
+      elim (lt-or-le u t) [
+        | inl now ↦ rw (same now) (le-refl _)
+        | inr earlier ↦ le-trans (left-falls u k) (left-mono t u k earlier)
+      ]
+    where
+      same : u < t → t ≡ suc u
+      same now = omega arith

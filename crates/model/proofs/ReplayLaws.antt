@@ -1,0 +1,48 @@
+-- What a replay may answer is one answer only, and *all met* comes right after the last unit.
+-- Assumes nothing.
+use mathlib.Core.Path.{_≡_, sym, ap}
+use Prim.Native.Nat.{ℕ, suc, _<_}
+use native.Mathlib.Omega.{arith}
+use native.Mathlib.Nat.{le-refl}
+use Rattle.laws.proofs.Cases.{neither-lower}
+use Rattle.model.specs.Jobs.{Jobs}
+use Rattle.model.specs.Machine.{Order, left-at}
+use Rattle.model.specs.Tick.{Gives}
+use Rattle.model.specs.Replay.{Replayed, missed, all-met, Missed, Met, Says}
+use Rattle.model.proofs.OrderLaws.{Strict}
+use Rattle.model.proofs.MachineLaws.{left-unit, unit-changed}
+
+module _ (jobs : Jobs) (before : Order) where
+  -- the first miss is at one tick, and at that tick one job is the lowest
+  missed-one : (t i u j : ℕ) → Missed jobs before t i → Missed jobs before u j → missed t i ≡ missed u j
+  missed-one t i u j one other = cc (same-tick, same-job)
+    where
+      same-tick : t ≡ u
+      same-tick =
+          neither-lower t u (λ less. other .first t i less (one .late)) (λ more. one .first u j more (other .late))
+
+      same-job : i ≡ j
+      same-job =
+          neither-lower i j (λ less. other .lowest i less (rw same-tick at (one .late)))
+          (λ more. one .lowest j more (rw (sym same-tick) at (other .late)))
+
+  -- at the earlier of two such ticks all would be done, and some job not
+  not-earlier : (t u : ℕ) → Met jobs before t → Met jobs before u → t < u → ⊥
+  not-earlier t u one other less =
+      let undone = other .worked t less in
+      omega (arith, undone .undone, one .done (undone .job) (undone .inside))
+
+  pub says-one : (x y : Replayed) → Says jobs before x → Says jobs before y → x ≡ y
+  says-one (missed t i) (missed u j) one other = missed-one t i u j one other
+  says-one (missed t i) (all-met u) miss met = absurd (met .on-time t i (miss .late))
+  says-one (all-met t) (missed u j) met miss = absurd (met .on-time u j (miss .late))
+  says-one (all-met t) (all-met u) one other =
+      ap all-met (neither-lower t u (not-earlier t u one other) (not-earlier u t other one))
+
+  -- "the tick after the last unit": the tick before it gave one, to a job that was not done
+  pub met-last : Strict before → (t : ℕ) (met : Met jobs before (suc t))
+      → Gives jobs before t (left-at jobs before t) (left-at jobs before (suc t)) (met .worked t (le-refl (suc t)) .job)
+  met-last strict t met =
+      let undone = met .worked t (le-refl (suc t)) in
+      unit-changed (left-unit jobs before strict t) (undone .job) λ same.
+      omega (arith, undone .undone, met .done (undone .job) (undone .inside))

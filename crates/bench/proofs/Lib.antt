@@ -5,3 +5,8 @@ pub mod Stopped
 pub mod Ticking
 pub mod LoadedLaws
 pub mod LoadTurns
+pub mod SlotLaws
+pub mod OneUnit
+pub mod Holding
+pub mod MachineRun
+pub mod ReplaySays

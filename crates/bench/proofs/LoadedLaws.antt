@@ -1,8 +1,9 @@
 -- The loaded arrays: one number for each job, and 0 past the last.
 -- Assumes nothing.
-use mathlib.Core.Path.{_≡_, _∙_}
+use mathlib.Core.Path.{_≡_, _∙_, ap}
 use mathlib.Core.Logic.{inl, inr}
 use mathlib.Core.Bool.{cond}
+use mathlib.Core.List.{List}
 use Prim.Native.Nat.{ℕ, _≤_, _<_}
 use native.Mathlib.Omega.{arith}
 use lib.Dec.{ltb}
@@ -25,6 +26,10 @@ module _ (count : ℕ) (f : ℕ → ℕ) where
   pub slots-at : count ≤ slots → (k : ℕ) → k < count → getD (slots-of count f) k 0 ≡ f k
   unfolding slots-of slot
   slots-at fits k inside = tabulate-at slots slot k (omega arith) ∙ rw (lt-ltb k count inside)
+
+  -- an array that is as it was loaded
+  pub slots-read : {l : List ℕ} → l ≡ slots-of count f → count ≤ slots → (k : ℕ) → k < count → getD l k 0 ≡ f k
+  slots-read is-loaded fits k inside = ap (λ l. getD l k 0) is-loaded ∙ slots-at fits k inside
 
   pub slots-past : (k : ℕ) → count ≤ k → getD (slots-of count f) k 0 ≡ 0
   unfolding slots-of slot

@@ -1,26 +1,44 @@
 -- The tick in laws, one for each of the rule's sentences, and the run: document 01, "The replay bench".
 -- Assumes nothing.
+use mathlib.Core.Bool.{cond}
 use mathlib.Core.Path.{_≡_, refl, _∙_, ap}
+use mathlib.Core.Logic.{inl, inr}
 use Prim.Native.Nat.{ℕ, zero, suc, _≤_, _<_}
+use native.Mathlib.Omega.{arith}
+use lib.Dec.{ltb}
 use borrow.Author.Tests.{lt-ltb, le-ltb}
 use Rattle.laws.specs.Search.{at, nowhere}
+use Rattle.laws.proofs.Cases.{lt-or-le}
 use Rattle.model.specs.Replay.{last-tick}
 use Rattle.bench.specs.declared.state.Bench.{Bench}
 use Rattle.bench.specs.declared.state.Outcome.{Outcome}
 use Rattle.bench.specs.declared.state.Outcome.the-variants.{Running, Missed, AllMet}
 use Rattle.bench.specs.Rule.{first-late, first-left, next-in, with-outcome, moved-on, less-one, turned, while-running, tick-of, run-of}
+use Rattle.bench.specs.Ticked.{Going}
+
+-- ---- a bench that has stopped is not running
+
+pub missed-stopped : {outcome : Outcome} {i : ℕ} → outcome ≡ Missed i → outcome ≡ Running → ⊥
+missed-stopped missed running = let z : _≡_ {A = ℕ} 0 1 = cc in omega arith
+
+pub met-stopped : {outcome : Outcome} → outcome ≡ AllMet → outcome ≡ Running → ⊥
+met-stopped met running = let z : _≡_ {A = ℕ} 0 1 = cc in omega arith
 
 -- ---- "A stopped bench, after a miss or all met, comes back from a tick unchanged, and so does a state past that last
 -- tick."
 
-module _ {b : Bench} where
-  pub tick-stopped-missed : {i : ℕ} → b .outcome ≡ Missed i → tick-of b ≡ b
+module _ (b : Bench) where
+  pub tick-stopped : (b .outcome ≡ Running → ⊥) → tick-of b ≡ b
   unfolding tick-of
-  tick-stopped-missed stopped = rw stopped refl
+  tick-stopped stopped = which (b .outcome) refl
+    where
+      next : Bench
+      next = cond (ltb last-tick (b .tick)) b (turned b (first-late b) (first-left b))
 
-  pub tick-stopped-met : b .outcome ≡ AllMet → tick-of b ≡ b
-  unfolding tick-of
-  tick-stopped-met stopped = rw stopped refl
+      which : (outcome : Outcome) → b .outcome ≡ outcome → while-running outcome next b ≡ b
+      which Running running = absurd (stopped running)
+      which (Missed i) missed = refl
+      which AllMet met = refl
 
   pub tick-past : last-tick < b .tick → tick-of b ≡ b
   unfolding tick-of
@@ -32,10 +50,6 @@ module _ {b : Bench} where
       which AllMet = refl
 
 -- ---- the tick of a bench that is not stopped
-
-pub record Going (b : Bench) : Type 0 where
-  pub running : b .outcome ≡ Running
-  pub in-time : b .tick ≤ last-tick
 
 module _ {b : Bench} (going : Going b) where
   goes : tick-of b ≡ turned b (first-late b) (first-left b)
@@ -86,3 +100,18 @@ pub run-kept : (n : ℕ) (b : Bench) → tick-of b ≡ b → run-of n b ≡ b
 unfolding run-of
 run-kept zero b kept = refl
 run-kept (suc n) b kept = ap (run-of n) kept ∙ run-kept n b kept
+
+-- a bench that stands still after n calls does so after more
+pub run-longer : (n m : ℕ) (b : Bench) → n ≤ m → tick-of (run-of n b) ≡ run-of n b → run-of m b ≡ run-of n b
+run-longer n zero b longer kept = ap (λ k. run-of k b) (none longer)
+  where
+    none : n ≤ 0 → 0 ≡ n
+    none longer = omega arith
+run-longer n (suc m) b longer kept =
+    elim (lt-or-le m n) [
+      | inl less ↦ ap (λ k. run-of k b) (same less)
+      | inr more ↦ run-more m b ∙ ap tick-of (run-longer n m b more kept) ∙ kept
+    ]
+  where
+    same : m < n → suc m ≡ n
+    same less = omega arith

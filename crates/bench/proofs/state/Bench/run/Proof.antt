@@ -3,7 +3,7 @@
 use Prim.Native.Nat.{suc, _-_}
 use borrow.Author.Needs.{needs}
 use Rattle.model.specs.Replay.{last-tick}
-use Rattle.bench.proofs.Stopped.{tick-stopped}
+use Rattle.bench.proofs.Stopped.{tick-other}
 use Rattle.bench.proofs.Ticking.{Ticking, ticking-start, ticking-stop, ticking-on, ticking-end}
 use Rattle.bench.proofs.state.Bench.run.Statement.{statement}
 use Rattle.bench.proofs.state.Bench.run.Tie as tie
@@ -19,7 +19,7 @@ loop-holds c = ticking-start _
 
 -- the bench is stopped
 returns : tie.Need-returns Inv-loop μ-loop
-returns c = ticking-stop (c .before .before .loop .inv) (tick-stopped _ (c .match .keys2))
+returns c = ticking-stop (c .before .before .loop .inv) (tick-other _ (c .match .keys2))
 
 loop-less : tie.Need-loop-less Inv-loop μ-loop
 unfolding last-tick

@@ -5,16 +5,16 @@ use borrow.Author.Needs.{needs}
 use Rattle.model.specs.Replay.{last-tick}
 use Rattle.bench.proofs.ScanLaws.{late-at, late-none, left-at, left-none, next-at, next-none, next-servable}
 use Rattle.bench.proofs.TickLaws.{tick-past, tick-missed, tick-met, tick-idle, tick-unit}
-use Rattle.bench.proofs.Stopped.{tick-stopped}
+use Rattle.bench.proofs.Stopped.{tick-other}
 use Rattle.bench.proofs.state.Bench.tick.Statement.{statement}
 use Rattle.bench.proofs.state.Bench.tick.Tie as tie
 
 returns : tie.Need-returns
-returns c = sym (tick-stopped _ (c .match .keys2))
+returns c = sym (tick-other _ (c .match .keys2))
 
 returns-2 : tie.Need-returns-2
 unfolding last-tick
-returns-2 c = sym (tick-past (search needs))
+returns-2 c = sym (tick-past _ (search needs))
 
 returns-3 : tie.Need-returns-3
 unfolding last-tick

@@ -1,0 +1,99 @@
+-- What the replay of a loaded list answers is what document 01 says of the machine, and every run ends by tick 131,070.
+-- Assumes nothing.
+use mathlib.Core.Path.{_≡_, refl, ap, ap₂, subst, sym, _∙_}
+use Prim.Native.Nat.{ℕ, suc, _≤_, _<_}
+use native.Mathlib.Omega.{arith}
+use native.Mathlib.Nat.{le-refl, le-step}
+use Rattle.model.specs.Task.{Table}
+use Rattle.model.specs.Request.{Requests, last-arrival}
+use Rattle.model.specs.Jobs.{Jobs, jobs-of}
+use Rattle.model.specs.Machine.{sooner}
+use Rattle.model.specs.Replay.{Replayed, all-met, Says, Met, last-tick}
+use Rattle.model.proofs.ReplayLaws.{says-one}
+use Rattle.bench.specs.declared.state.Bench.{Bench}
+use Rattle.bench.specs.declared.state.Outcome.{Outcome}
+use Rattle.bench.specs.declared.state.Outcome.the-variants.{Running, Missed, AllMet}
+use Rattle.bench.specs.Rule.{slots, run-of}
+use Rattle.bench.specs.Loaded.{loaded, run-whole, answer-of, replay-of}
+use Rattle.bench.specs.Meaning.{Replayable, Ended}
+use Rattle.bench.proofs.TickLaws.{missed-stopped, met-stopped, run-longer}
+use Rattle.bench.proofs.OneUnit.{tick-stands}
+use Rattle.bench.proofs.MachineRun.{Behind, Stage, runs, missed, met, run-stage}
+
+-- "arrivals 0 to 65,535", and D at most as much
+pub list-replayable : (table : Table) (list : Requests) → list .count ≤ slots
+    → ((i : ℕ) → i < list .count → list .request i .arrival ≤ last-arrival)
+    → ((i : ℕ) → i < list .count → table .task (list .request i .task) .D (list .request i .frame) ≤ 65535)
+    → Replayable (jobs-of table list)
+unfolding last-arrival last-tick
+list-replayable table list fits early short =
+    record { fits = fits; in-time = λ k inside. omega (arith, early k inside, short k inside) }
+
+module _ (jobs : Jobs) (good : Replayable jobs) where
+  -- what was undone at the last tick was late at it
+  not-behind : Behind jobs (suc last-tick) → ⊥
+  not-behind behind =
+      let undone = behind .worked last-tick (le-refl (suc last-tick)) in
+      behind .on-time last-tick (undone .job) (le-refl (suc last-tick))
+      (record {
+        inside = undone .inside;
+        undone = undone .undone;
+        over = good .in-time (undone .job) (undone .inside);
+      })
+
+  ended-so : (b : Bench) (t : ℕ) (outcome : Outcome) → b .tick ≡ t → b .outcome ≡ outcome → t < suc last-tick
+      → (outcome ≡ Running → ⊥) → Says jobs (sooner jobs) (answer-of outcome t) → Ended jobs b
+  ended-so b t outcome tick-is outcome-is soon stopped says =
+      record {
+        stopped = λ running. stopped (sym outcome-is ∙ running);
+        soon = omega arith;
+        says = subst (Says jobs (sooner jobs)) (sym (ap₂ answer-of outcome-is tick-is)) says;
+      }
+
+  ended : (b : Bench) → Stage jobs (suc last-tick) b → Ended jobs b
+  ended b (runs running holds behind) = absurd (not-behind behind)
+  ended b (missed t i less outcome holds says) =
+      ended-so b t (Missed i) (holds .tick) outcome less (missed-stopped refl) says
+  ended b (met t less outcome holds says) =
+      ended-so b t AllMet (holds .tick) outcome less (met-stopped refl) says
+
+  -- "All runs end by tick 131,070."
+  pub run-ends : Ended jobs (run-whole (loaded jobs))
+  unfolding run-whole
+  run-ends = ended (run-whole (loaded jobs)) (run-stage jobs (good .fits) (suc last-tick) (le-refl (suc last-tick)))
+
+  pub replay-says : Says jobs (sooner jobs) (replay-of jobs)
+  unfolding replay-of
+  replay-says = run-ends .says
+
+  -- and nothing else says it
+  pub replay-only : (x : Replayed) → Says jobs (sooner jobs) x → x ≡ replay-of jobs
+  replay-only x says = says-one jobs (sooner jobs) x (replay-of jobs) says replay-says
+
+-- "0 for an empty list"
+pub replay-empty : (jobs : Jobs) → jobs .count ≡ 0 → replay-of jobs ≡ all-met 0
+replay-empty jobs empty = sym (replay-only jobs good (all-met 0) nothing)
+  where
+    none : (k : ℕ) → k < jobs .count → ⊥
+    none k inside = omega arith
+
+    good : Replayable jobs
+    good = record { fits = omega arith; in-time = λ k inside. absurd (none k inside) }
+
+    nothing : Met jobs (sooner jobs) 0
+    nothing =
+        record {
+          done = λ k inside. absurd (none k inside);
+          worked = λ u less. absurd (omega arith);
+          on-time = λ u k late. none k (late .inside);
+        }
+
+-- ---- an answer can be had from the first state that has stopped, without the ticks that are left
+
+pub replay-early : (jobs : Jobs) (n : ℕ) → n ≤ last-tick → (run-of n (loaded jobs) .outcome ≡ Running → ⊥)
+    → replay-of jobs ≡ answer-of (run-of n (loaded jobs) .outcome) (run-of n (loaded jobs) .tick)
+unfolding replay-of run-whole
+replay-early jobs n soon stopped =
+    ap (λ b. answer-of (b .outcome) (b .tick))
+    (run-longer n (suc last-tick) (loaded jobs) (le-step soon)
+    (tick-stands (run-of n (loaded jobs)) (λ going. stopped (going .running))))

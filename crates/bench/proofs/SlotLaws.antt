@@ -1,0 +1,121 @@
+-- What the bench's three searches over its slots answer, and what a unit less does to the list of amounts.
+-- Assumes nothing.
+use mathlib.Core.Path.{_≡_, refl, sym, _∙_, subst}
+use mathlib.Core.Logic.{inl, inr}
+use mathlib.Core.Bool.{Bool, true, false, _&&_, true≢false, false≢true}
+use mathlib.Core.List.{List}
+use Prim.Native.Nat.{ℕ, _-_, _≤_, _<_}
+use native.Mathlib.Omega.{arith}
+use native.Mathlib.Decide.{ℕ-discrete}
+use lib.Dec.{leb, ltb}
+use lib.ListN.{length, getD, set, length-set, List·getD-eq-default}
+use lib.Seq.{getD-set-same, getD-set-other}
+use borrow.Author.Tests.{leb-true, ltb-true, ltb-false, le-leb, lt-ltb, eq-eqb, ne-eqb}
+use Rattle.laws.specs.Search.{Found, at, nowhere}
+use Rattle.laws.proofs.Cases.{lt-or-le}
+use Rattle.laws.proofs.SearchLaws.{Right, least-right}
+use Rattle.model.specs.Machine.{sooner, give}
+use Rattle.model.specs.Tick.{One-unit}
+use Rattle.model.proofs.OrderLaws.{sooner-strict}
+use Rattle.model.proofs.MachineLaws.{one-unit}
+use Rattle.bench.specs.declared.state.Bench.{Bench}
+use Rattle.bench.specs.Rule.{slots, jobs-in, first-late, first-left, next-in, less-one}
+use Rattle.bench.specs.Ticked.{left-in, Late-in, Misses, None-late, Some-left}
+
+module _ (b : Bench) where
+  -- ---- the first late slot
+
+  late-test : ℕ → Bool
+  late-test k = ltb 0 (left-in b k) && leb (getD (b .due) k 0) (b .tick)
+
+  late-is : (k : ℕ) → k < slots → late-test k ≡ true → Late-in b k
+  unfolding late-test
+  late-is k inside passes = which (ltb 0 (left-in b k)) (leb (getD (b .due) k 0) (b .tick)) refl refl passes
+    where
+      which : (x y : Bool) → ltb 0 (left-in b k) ≡ x → leb (getD (b .due) k 0) (b .tick) ≡ y → (x && y) ≡ true
+          → Late-in b k
+      which true true some past passes =
+          record { inside = inside; undone = ltb-true _ _ some; over = leb-true _ _ past }
+      which true false some past passes = absurd (false≢true passes)
+      which false y some past passes = absurd (false≢true passes)
+
+  not-late : (k : ℕ) → late-test k ≡ false → Late-in b k → ⊥
+  unfolding late-test
+  not-late k fails late = true≢false (sym (rw (lt-ltb _ _ (late .undone), le-leb _ _ (late .over))) ∙ fails)
+
+  late-right : Right late-test slots 0 (first-late b)
+  unfolding late-test first-late
+  late-right = least-right late-test slots 0
+
+  pub first-late-at : (i : ℕ) → first-late b ≡ at i → Misses b i
+  first-late-at i found =
+      let least = subst (Right late-test slots 0) found late-right in
+      record {
+        late = late-is i (least .high) (least .passes);
+        lowest = λ j less. not-late j (least .first j (omega arith) less);
+      }
+
+  pub first-late-none : first-late b ≡ nowhere → None-late b
+  first-late-none found k late =
+      not-late k (subst (Right late-test slots 0) found late-right k (omega arith) (late .inside)) late
+
+  -- ---- the first with work left
+
+  left-test : ℕ → Bool
+  left-test k = ltb 0 (left-in b k)
+
+  left-right : Right left-test slots 0 (first-left b)
+  unfolding left-test first-left
+  left-right = least-right left-test slots 0
+
+  pub first-left-at : (k : ℕ) → first-left b ≡ at k → Some-left b
+  unfolding left-test
+  first-left-at k found =
+      let least = subst (Right left-test slots 0) found left-right in
+      record { slot = k; inside = least .high; undone = ltb-true _ _ (least .passes) }
+
+  pub first-left-none : first-left b ≡ nowhere → (k : ℕ) → k < slots → left-in b k ≡ 0
+  unfolding left-test
+  first-left-none found k inside =
+      omega (
+        arith,
+        ltb-false 0 (left-in b k) (subst (Right left-test slots 0) found left-right k (omega arith) inside),
+      )
+
+  -- ---- the one that gets the unit
+
+  pub next-unit : One-unit (jobs-in b) (sooner (jobs-in b)) (b .tick) (left-in b) (give (next-in b) (left-in b))
+  unfolding next-in jobs-in
+  next-unit = one-unit (jobs-in b) (sooner (jobs-in b)) (b .tick) (left-in b) (sooner-strict (jobs-in b))
+
+-- ---- a unit less, in the list: past its end both sides are 0
+
+module _ (left : List ℕ) (b : ℕ) where
+  less : List ℕ
+  less = set left b (getD left b 0 - 1)
+
+  less-past : length left ≤ b → getD less b 0 ≡ 0
+  unfolding less
+  less-past past = List·getD-eq-default less 0 (rw length-set past)
+
+  less-here : getD less b 0 ≡ getD left b 0 - 1
+  unfolding less
+  less-here =
+      elim (lt-or-le b (length left)) [
+        | inl inside ↦ getD-set-same left b (getD left b 0 - 1) 0 inside
+        | inr past ↦ omega (arith, less-past past, List·getD-eq-default left 0 past)
+      ]
+
+  less-at : (k : ℕ) → getD less k 0 ≡ give (at b) (λ j. getD left j 0) k
+  unfolding less
+  less-at k =
+      elim (ℕ-discrete k b) [
+        | yes here ↦ rw (here, eq-eqb b b refl) less-here
+        | no differ ↦ rw (ne-eqb b k (λ e. differ (sym e)))
+            (getD-set-other left b k (getD left b 0 - 1) 0 differ ∙ omega arith)
+      ]
+
+pub less-one-at : (left : List ℕ) (r : Found) (k : ℕ) → getD (less-one left r) k 0 ≡ give r (λ j. getD left j 0) k
+unfolding less
+less-one-at left nowhere k = refl
+less-one-at left (at b) k = less-at left b k

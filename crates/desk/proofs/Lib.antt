@@ -1,3 +1,4 @@
 pub mod AskLaws
 pub mod SameLaws
 pub mod NamedLaws
+pub mod ListLaws

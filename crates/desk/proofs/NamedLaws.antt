@@ -15,6 +15,9 @@ use Rattle.model.specs.Demand.{frame, offset, counted, lowest, all-demands, all
 use Rattle.model.specs.Verdict.{horizon, closes, overloads, starts, overloaded-at, fits-at}
 use Rattle.model.specs.Answer.{answered}
 use Rattle.model.proofs.WalkLaws.{walk, walk-is}
+use Rattle.model.specs.Request.{last-arrival}
+use Rattle.model.specs.Machine.{sooner, pick}
+use Rattle.model.specs.Replay.{last-tick}
 use Rattle.table.specs.declared.reader.Reading.{Reading}
 use Rattle.table.specs.declared.reader.Reading.the-variants.{Table, Refused}
 use Rattle.table.specs.Bytes.{record-of}
@@ -22,14 +25,19 @@ use Rattle.table.specs.Reader.{read-from, reading-of}
 use Rattle.table.specs.TableOf.{records-before, records-of, task-of}
 use Rattle.table.proofs.Exact.{read-good}
 use Rattle.table.proofs.TaskLaws.{proper-table}
-use Rattle.desk.specs.Questions.{on-table, demand-asked, verdict-asked}
-use Rattle.desk.specs.Named.{Question, demand-of, verdict-on, Said, says-number, says-verdict, said, Row, A, B, named}
-use Rattle.desk.proofs.SameLaws.{same-int, same-list, same-verdict, same-answer, same-said, same-said-is}
+use Rattle.requests.specs.Entry.{entry-of}
+use Rattle.requests.specs.Reader.{check-from, check-of}
+use Rattle.bench.specs.Rule.{jobs-in, first-late, first-left, next-in, tick-of, run-of}
+use Rattle.bench.specs.Loaded.{slots-of, loaded, run-whole, replay-of}
+use Rattle.desk.specs.Questions.{on-table, demand-asked, verdict-asked, replay-asked}
+use Rattle.desk.specs.Named.{Question, demand-of, verdict-on, replay-with, Said, says-number, says-verdict, says-replay, said, Row, A, B, B-list, named}
+use Rattle.desk.proofs.SameLaws.{same-int, same-list, same-verdict, same-replay, same-answer, same-said, same-said-is}
 
 -- what the rules say, by the walk
 quick : List ℕ → Question → Said
 quick s (demand-of task t) = says-number (demand-asked s task t)
 quick s verdict-on = says-verdict (on-table s (λ table. answered (walk table horizon 1)))
+quick s (replay-with list) = says-replay (replay-asked s list)
 
 is-byte : ℕ → Bool
 is-byte x = ltb x 256
@@ -43,6 +51,7 @@ bytes-are (x ∷ s) h (suc i) = bytes-are s (both-right (is-byte x) (every is-by
 quick-is : (s : List ℕ) (q : Question) → T (every is-byte s) → quick s q ≡ said s q
 unfolding quick verdict-asked
 quick-is s (demand-of task t) h = refl
+quick-is s (replay-with list) h = refl
 quick-is s verdict-on h = which (reading-of s) refl
   where
     which : (r : Reading) → reading-of s ≡ r
@@ -69,9 +78,11 @@ unfolding named A B right by-walk quick is-byte every same-said same-answer same
     demand-asked reading-of read-from record-of records-before records-of task-of horizon walk overloads closes
     overloaded-at fits-at starts lowest all-demands all-work counted offset frame sum greatest tabulate
     least-from first-least
+    B-list same-replay replay-asked check-of check-from entry-of last-arrival last-tick replay-of run-whole run-of
+    loaded slots-of tick-of first-late first-left next-in jobs-in pick sooner
 all-right = tt
 
--- K1, K2, K3, K4's verdict, K6, K7
+-- K1, K2, K3, K4's verdict, K5, K6, K7
 pub named-right : (i : ℕ) → i < length named → (other : Row)
     → said (getD named i other .bytes) (getD named i other .question) ≡ getD named i other .says
 named-right i below other = right-is (getD named i other) (every-at right named other all-right i below)

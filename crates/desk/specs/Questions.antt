@@ -23,7 +23,8 @@ use Rattle.requests.specs.declared.reader.Checked.{Checked}
 use Rattle.requests.specs.declared.reader.Checked.the-variants as checked
 use Rattle.requests.specs.Entry.{list-of}
 use Rattle.requests.specs.Reader.{check-of}
-use Rattle.bench.specs.Loaded.{replay-of}
+use Rattle.bench.specs.declared.state.Bench.{Bench}
+use Rattle.bench.specs.Loaded.{loaded, replay-of}
 
 -- the table's own refusal first; else what is said of a table
 abbrev pub after-reading : {A : Type 0} → Reading → Answer A → Answer A
@@ -75,9 +76,21 @@ abbrev pub on-list : {A : Type 0} → List ℕ → List ℕ → (Table → Reque
 on-list s list ask =
     on-table s (λ table. after-check (check-of table list) (answered (ask table (list-of list))))
 
--- how many requests a legal list has
+-- what is asked of a legal list: how many requests it has, its replay, and the bench that is loaded with it
+abbrev pub counts : Table → Requests → ℕ
+counts table requests = requests .count
+
+abbrev pub replays : Table → Requests → Replayed
+replays table requests = replay-of (jobs-of table requests)
+
+abbrev pub loads : Table → Requests → Bench
+loads table requests = loaded (jobs-of table requests)
+
 unfoldable pub list-asked : List ℕ → List ℕ → Answer ℕ
-list-asked s list = on-list s list (λ table requests. requests .count)
+list-asked s list = on-list s list counts
 
 unfoldable pub replay-asked : List ℕ → List ℕ → Answer Replayed
-replay-asked s list = on-list s list (λ table requests. replay-of (jobs-of table requests))
+replay-asked s list = on-list s list replays
+
+unfoldable pub load-asked : List ℕ → List ℕ → Answer Bench
+load-asked s list = on-list s list loads

@@ -11,6 +11,8 @@ use Rattle.table.specs.declared.reader.Refusal.{Refusal}
 use Rattle.verdict.specs.Written.{closing-of, judged-of}
 use Rattle.requests.specs.declared.reader.Checked.{Checked}
 use Rattle.requests.specs.declared.reader.Checked.the-variants as checked
+use Rattle.bench.specs.declared.state.Bench.{Bench}
+use Rattle.bench.specs.Loaded.{loaded, no-jobs}
 use Rattle.bench.specs.Written.{replayed-of}
 use Rattle.desk.specs.declared.Amount.{Amount}
 use Rattle.desk.specs.declared.Amount.the-variants as amount
@@ -19,8 +21,9 @@ use Rattle.desk.specs.declared.Spare.the-variants as spare
 use Rattle.desk.specs.declared.Window.{Window}
 use Rattle.desk.specs.declared.Window.the-variants as window
 use Rattle.desk.specs.declared.Judgement.the-variants as judgement
-use Rattle.desk.specs.declared.Replay.{Replay}
-use Rattle.desk.specs.declared.Replay.the-variants as replay
+use Rattle.desk.specs.declared.Loaded.{Loaded}
+use Rattle.desk.specs.declared.Ending.{Ending}
+use Rattle.desk.specs.declared.Ending.the-variants as ending
 use Rattle.desk.specs.declared.Judged.{Judged}
 
 -- "Every refusal is a refusal number with the record index"
@@ -48,6 +51,11 @@ abbrev pub checked-of : Answer ℕ → Checked
 checked-of (answered n) = checked.Legal n
 checked-of (refused number index) = checked.Refused (refusal number index)
 
-abbrev pub replay-in : Answer Replayed → Replay
-replay-in (answered r) = replay.Is (replayed-of r)
-replay-in (refused number index) = replay.Refused (refusal number index)
+abbrev pub ending-of : Answer Replayed → Ending
+ending-of (answered r) = ending.Is (replayed-of r)
+ending-of (refused number index) = ending.Refused (refusal number index)
+
+-- a bench with nothing to do stands beside a refusal
+abbrev pub loaded-in : Answer ℕ → Answer Bench → Loaded
+loaded-in count (answered b) = record { check = checked-of count; bench = b }
+loaded-in count (refused number index) = record { check = checked-of count; bench = loaded no-jobs }

@@ -1,8 +1,10 @@
 // The desk: each question on raw bytes, answered or refused. Nothing here requires anything of its caller.
 // An answer is `Is` the value, or `Refused` with the refusal's number and record index.
 mod good;
+mod lists;
 
 use bench::replay::Replayed;
+use bench::state::Bench;
 use requests::reader::Checked;
 use table::reader::Reading;
 use table::reader::Refusal;
@@ -12,7 +14,8 @@ ghost use mathlib.Core.Path.{_≡_};
 ghost use Rattle.table.specs.Reader.{reading-of};
 ghost use Rattle.sums.specs.Sized.{most-by};
 ghost use Rattle.desk.specs.Questions.{one-task, demand-asked, work-asked, margin-asked, window-asked, verdict-asked};
-ghost use Rattle.desk.specs.Written.{amount-of, spare-of, window-of, judgement-of};
+ghost use Rattle.desk.specs.Questions.{list-asked, replay-asked, load-asked};
+ghost use Rattle.desk.specs.Written.{amount-of, spare-of, window-of, judgement-of, checked-of, ending-of, loaded-in};
 
 pub enum Amount {
     Is(u64),
@@ -34,7 +37,7 @@ pub enum Judgement {
     Refused(Refusal),
 }
 
-pub enum Replay {
+pub enum Ending {
     Is(Replayed),
     Refused(Refusal),
 }
@@ -43,6 +46,12 @@ pub enum Replay {
 pub struct Judged {
     pub judgement: Judgement,
     pub starts: [u8; 16],
+}
+
+// Whether the list is legal, and the bench that is loaded with it; where it is refused, one with nothing to do.
+pub struct Loaded {
+    pub check: Checked,
+    pub bench: Bench,
 }
 
 // What the bytes are as a table.
@@ -111,4 +120,43 @@ pub fn judge(s: &[u8]) -> Judged
         };
     };
     good::judge_in(s, shape)
+}
+
+// What the bytes are as a request list of the table.
+pub fn check_list<'a, 'b>(s: &'a [u8], list: &'b [u8]) -> Checked
+    ensures { λ r. ⌜ r ≡ checked-of (list-asked (now (s .entry)) (now (list .entry))) ⌝ }
+{
+    let reading = table::reader::read_table(s);
+    let Reading::Table(shape) = reading else {
+        return Checked::Refused(table::reader::refusal_of(reading));
+    };
+    lists::check_in(s, shape, list)
+}
+
+// The replay of a request list.
+pub fn replay<'a, 'b>(s: &'a [u8], list: &'b [u8]) -> Ending
+    ensures { λ r. ⌜ r ≡ ending-of (replay-asked (now (s .entry)) (now (list .entry))) ⌝ }
+{
+    let reading = table::reader::read_table(s);
+    let Reading::Table(shape) = reading else {
+        return Ending::Refused(table::reader::refusal_of(reading));
+    };
+    lists::replay_in(s, shape, list)
+}
+
+// The bench loaded with a request list, for a caller that ticks it.
+pub fn load<'a, 'b>(s: &'a [u8], list: &'b [u8]) -> Loaded
+    ensures { λ r. ⌜
+        r ≡ loaded-in (list-asked (now (s .entry)) (now (list .entry)))
+        (load-asked (now (s .entry)) (now (list .entry)))
+        ⌝ }
+{
+    let reading = table::reader::read_table(s);
+    let Reading::Table(shape) = reading else {
+        return Loaded {
+            check: Checked::Refused(table::reader::refusal_of(reading)),
+            bench: bench::load::empty(),
+        };
+    };
+    lists::load_in(s, shape, list)
 }

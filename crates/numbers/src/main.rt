@@ -24,8 +24,8 @@ fn answer(kind: Kind, first: u64, second: u64, table: &[u8], list: &[u8]) {
         Kind::Margin => say::say_margin(desk::margin(table, first)),
         Kind::Demand => say::say_amount(b"demand ", desk::demand(table, first, second)),
         Kind::Work => say::say_amount(b"work ", desk::work(table, first, second)),
-        Kind::List => say::say(b"later"),
-        Kind::Replay => say::say(b"later"),
+        Kind::List => say::say_checked(desk::check_list(table, list)),
+        Kind::Replay => say::say_ending(desk::replay(table, list)),
     }
 }
 

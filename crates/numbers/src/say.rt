@@ -3,12 +3,15 @@ ghost use mathlib.Core.Path.{_≡_};
 ghost use lib.IntN.{natAbs};
 use crate::question::Problem;
 use crate::question::What;
+use bench::replay::Replayed;
 use desk::Amount;
+use desk::Ending;
 use desk::Judged;
 use desk::Judgement;
 use desk::Spare;
 use desk::Window;
 use libc::STDOUT_FILENO;
+use requests::reader::Checked;
 use table::reader::Reading;
 use table::reader::Refusal;
 use text::wide;
@@ -140,6 +143,38 @@ pub fn say_judged(j: Judged) {
     match judgement {
         Judgement::Is(v) => say_verdict(v, starts),
         Judgement::Refused(no) => say_refusal(no),
+    }
+}
+
+pub fn say_checked(c: Checked) {
+    match c {
+        Checked::Legal(n) => {
+            say(b"legal records=");
+            say_number(n as u64);
+        }
+        Checked::Refused(no) => say_refusal(no),
+    }
+}
+
+fn say_replayed(r: Replayed) {
+    match r {
+        Replayed::Missed { tick, index } => {
+            say(b"miss tick=");
+            say_number(tick as u64);
+            say(b" record=");
+            say_number(index as u64);
+        }
+        Replayed::AllMet { tick } => {
+            say(b"all-met tick=");
+            say_number(tick as u64);
+        }
+    }
+}
+
+pub fn say_ending(e: Ending) {
+    match e {
+        Ending::Is(r) => say_replayed(r),
+        Ending::Refused(no) => say_refusal(no),
     }
 }
 

@@ -1,0 +1,69 @@
+-- The ways through a question about a request list of a table that was read: the list's refusal, then the answer.
+-- Assumes nothing.
+use Prim.Native.Nat.{ℕ, _≤_}
+use mathlib.Core.Path.{_≡_, sym, ap, _∙_}
+use mathlib.Core.List.{List}
+use Rattle.model.specs.Task.{Table}
+use Rattle.model.specs.Request.{Requests}
+use Rattle.model.specs.Answer.{Answer, answered, refused}
+use Rattle.table.specs.declared.reader.Shape.{Shape}
+use Rattle.table.specs.declared.reader.Refusal.{Refusal}
+use Rattle.table.specs.declared.reader.Reading.the-variants as reading
+use Rattle.table.specs.Reader.{reading-of}
+use Rattle.table.specs.TableOf.{table-of}
+use Rattle.table.proofs.Exact.{shaped}
+use Rattle.table.proofs.Rising.{few-tasks}
+use Rattle.requests.specs.declared.reader.Checked.{Checked}
+use Rattle.requests.specs.declared.reader.Checked.the-variants.{Legal, Refused}
+use Rattle.requests.specs.Entry.{list-of}
+use Rattle.requests.specs.Reader.{check-of, refusal-in}
+use Rattle.requests.proofs.Exact.{check-good, check-count}
+use Rattle.bench.specs.declared.state.Bench.{Bench}
+use Rattle.bench.specs.Loaded.{loaded, no-jobs, Listed}
+use Rattle.desk.specs.Questions.{on-list, list-asked}
+use Rattle.desk.specs.Written.{checked-of, loaded-in}
+
+module _ (s list : List ℕ) (shape : Shape) (read : reading-of s ≡ reading.Table shape) where
+  few : table-of s .tasks ≤ 16
+  few = few-tasks (shaped s shape read .well)
+
+  -- the answer of the check, whichever it is
+  asked-is : (x : Checked) → check-of (table-of s) list ≡ x → checked-of (list-asked s list) ≡ x
+  unfolding list-asked
+  asked-is (Legal n) is = rw (read, is) (ap Legal (sym (check-count (table-of s) few list n is)))
+  asked-is (Refused r) is = rw (read, is)
+
+  module _ {r : Checked} (is : r ≡ check-of (table-of s) list) where
+    pub list-checked : r ≡ checked-of (list-asked s list)
+    list-checked = sym (asked-is r (sym is))
+
+    -- the list's refusal is passed on
+    pub list-refused : {A : Type 0} (ask : Table → Requests → A) {y no : Refusal} → r ≡ Refused y → no ≡ refusal-in r
+        → refused (no .number) (no .index) ≡ on-list s list ask
+    list-refused ask told taken =
+        ap (λ (x : Refusal). refused (x .number) (x .index)) (taken ∙ ap refusal-in told)
+        ∙ rw (read, sym is ∙ told)
+
+    module _ {n : ℕ} (told : r ≡ Legal n) where
+      pub list-answered : {A : Type 0} (ask : Table → Requests → A)
+          → answered (ask (table-of s) (list-of list)) ≡ on-list s list ask
+      list-answered ask = rw (read, sym is ∙ told)
+
+      -- a list that passed is one for the bench
+      pub list-listed : Listed (table-of s) list n
+      list-listed =
+          record {
+            accepted = check-good (table-of s) few list n (sym is ∙ told);
+            count-is = check-count (table-of s) few list n (sym is ∙ told);
+          }
+
+-- ---- the check and the bench beside it
+
+pub loaded-refused : {count : Answer ℕ} {load : Answer Bench} {b : Bench} {no : Refusal}
+    → refused (no .number) (no .index) ≡ count → refused (no .number) (no .index) ≡ load → b ≡ loaded no-jobs
+    → record { check = Refused no; bench = b } ≡ loaded-in count load
+loaded-refused counted loads empty = rw (sym counted, sym loads, empty)
+
+pub loaded-answered : (count : Answer ℕ) {load : Answer Bench} {b full : Bench} {r : Checked} → r ≡ checked-of count
+    → answered full ≡ load → b ≡ full → record { check = r; bench = b } ≡ loaded-in count load
+loaded-answered count checks loads is = rw (checks, sym loads, is)

@@ -1,0 +1,57 @@
+-- `replay_in` meets its contract: the list's refusal is passed on; a legal list is replayed.
+-- Assumes nothing.
+use mathlib.Core.Path.{ap, _∙_}
+use borrow.Author.Needs.{needs}
+use Rattle.table.proofs.ReadyLaws.{ready-read}
+use Rattle.desk.specs.Questions.{replays, replay-asked}
+use Rattle.desk.specs.Written.{ending-of}
+use Rattle.desk.specs.declared.Ending.the-variants.{Is}
+use Rattle.desk.proofs.AskLaws.{plan-room}
+use Rattle.desk.proofs.ListLaws.{list-refused, list-answered, list-listed}
+use Rattle.desk.proofs.lists.replay_in.Statement.{statement}
+use Rattle.desk.proofs.lists.replay_in.Tie as tie
+
+check-list-requires : tie.Need-check-list-requires
+check-list-requires c κs = ready-read _ _ (c .before .before .before .pre) (c .make-plan .ensures)
+
+-- refused
+returns : tie.Need-returns
+unfolding replay-asked
+returns c =
+    let told = c .before in
+    let at-check = told .before .before in
+    let at-plan = at-check .before in
+    let start = at-plan .before .before .before in
+    ap ending-of (list-refused _ _ _ (start .pre) (at-check .check-list .ensures) replays (told .enum-told .given .1)
+    (c .refusal-of .ensures))
+
+replay-requires : tie.Need-replay-requires
+replay-requires c κs =
+    let at-check = c .before .before .before in
+    let at-plan = at-check .before in
+    let start = at-plan .before .before .before in (
+      ready-read _ _ (start .pre) (at-plan .make-plan .ensures),
+      list-listed _ _ _ (start .pre) (at-check .check-list .ensures) (c .before .checked .given .1),
+    )
+
+returns-2 : tie.Need-returns-2
+unfolding replay-asked
+returns-2 c =
+    let told = c .before .before in
+    let at-check = told .before .before in
+    let start = at-check .before .before .before .before in
+    ap Is (c .replay .ensures)
+    ∙ ap ending-of (list-answered _ _ _ (start .pre) (at-check .check-list .ensures) (told .checked .given .1) replays)
+
+pub replay-in-spec : {M : Type 1} → statement M
+replay-in-spec =
+    tie.close
+    (tie.spec
+    (λ c κs. plan-room _ _ (c .before .before .pre))
+    check-list-requires
+    (λ c. search needs)
+    (λ c. search needs)
+    (λ c κs. search needs)
+    returns
+    replay-requires
+    returns-2)

@@ -1,0 +1,32 @@
+-- `replay` meets its contract: the table's refusal is passed on; a table's list is replayed.
+-- Assumes nothing.
+use mathlib.Core.Path.{sym, ap, _∙_}
+use borrow.Author.Needs.{needs}
+use Rattle.desk.specs.Questions.{replay-asked}
+use Rattle.desk.specs.Written.{ending-of}
+use Rattle.desk.proofs.AskLaws.{passed-on}
+use Rattle.desk.proofs.replay.Statement.{statement}
+use Rattle.desk.proofs.replay.Tie as tie
+
+-- refused
+returns : tie.Need-returns
+unfolding replay-asked
+returns c =
+    let told = c .before in
+    ap ending-of (passed-on _ _ (told .before .before .read-table .ensures) (told .enum-told .given .1)
+    (c .refusal-of .ensures))
+
+replay-in-requires : tie.Need-replay-in-requires
+replay-in-requires c κs = sym (c .before .before .before .read-table .ensures) ∙ c .before .reading .given .1
+
+pub replay-spec : {M : Type 1} → statement M
+replay-spec =
+    tie.close
+    (tie.spec
+    (λ c κs. search needs)
+    (λ c. search needs)
+    (λ c. search needs)
+    (λ c κs. search needs)
+    returns
+    replay-in-requires
+    (λ c. search needs))

@@ -54,7 +54,8 @@ module _ {table : Table} {s : List ℕ} {i : ℕ} {b : SoFar} (carried : Carried
             (getD-set-same (b .from) (entry-of s i .task) _ 0 (omega (arith, carried .from-long))))
         | inr other ↦
             rw (getD-set-other (b .next) (entry-of s i .task) k _ 0 other)
-            (rw (getD-set-other (b .from) (entry-of s i .task) k _ 0 other) (stays s i k other (carried .of-task k inside)))
+            (rw (getD-set-other (b .from) (entry-of s i .task) k _ 0 other)
+            (stays s i k other (carried .of-task k inside)))
       ]
 
   pub carried-next : entry-of s i .task < 16 → Carried table s (i + 1) (after-of table b (entry-of s i))

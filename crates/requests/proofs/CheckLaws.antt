@@ -1,4 +1,4 @@
--- Checking on from record i, with what is carried from the records before it: where it ends, and what that says of them.
+-- Checking on from record i, with what is carried from the records before it: where it ends, and what that says.
 -- Assumes nothing.
 use Prim.Native.Nat.{ℕ, zero, suc, _+_, _≤_, _<_}
 use mathlib.Core.Path.{_≡_, refl, _∙_}

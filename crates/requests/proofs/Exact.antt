@@ -1,5 +1,5 @@
--- The reader is exact, both ways: it calls a list legal exactly where the bytes are accepted, and gives a refusal exactly
--- where document 01 names that refusal with that index. Every table that is read has at most 16 tasks.
+-- The reader is exact, both ways: it calls a list legal exactly where the bytes are accepted, and gives a refusal
+-- exactly where document 01 names that refusal with that index. Every table that is read has at most 16 tasks.
 -- Assumes nothing.
 use Prim.Native.Nat.{ℕ, _≤_}
 use mathlib.Core.Path.{_≡_, refl, _∙_}

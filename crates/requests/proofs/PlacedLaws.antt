@@ -11,13 +11,14 @@ use native.Mathlib.Omega.{arith}
 use borrow.Author.Tests.{le-leb, lt-leb}
 use Rattle.model.specs.Task.{Task}
 use Rattle.model.specs.Demand.{frame}
-use Rattle.model.specs.Request.{last-arrival}
+use Rattle.model.specs.Request.{Known, last-arrival}
 use Rattle.table.specs.declared.plan.Plan.{Plan}
 use Rattle.table.specs.Ready.{Ready, Has-frame, Frames}
 use Rattle.table.specs.TableOf.{table-of}
 use Rattle.table.proofs.ReadyLaws.{ready-tasks, ready-few}
 use Rattle.requests.specs.declared.entry.Entry.{Entry}
 use Rattle.requests.specs.declared.rules.SoFar.{SoFar}
+use Rattle.requests.specs.Entry.{request-in}
 use Rattle.requests.specs.Rules.{unknown, out-of-order, misplaced, out-of-turn, fault-of, Placed}
 use Rattle.requests.proofs.TestLaws.{catches-place, first-10, first-11, first-none, none-10}
 
@@ -25,7 +26,10 @@ pub last-arrival-is : last-arrival ≡ 65535
 unfolding last-arrival
 last-arrival-is = refl
 
--- ---- the next frame
+-- ---- the next frame, and the soonest that it may come
+
+pub soonest-fits : {s : List ℕ} {x : Entry} → Placed s x → {p : ℕ} → p < 65536 → x .arrival + p < 4294967296
+soonest-fits placed short = omega (arith, last-arrival-is, placed .near)
 
 module _ {task : Task} {count : ℕ} (counted : Frames task count) (i : ℕ) where
   pub next-few : (i + 1) % count < 16
@@ -53,12 +57,15 @@ module _ {s : List ℕ} {plan : Plan} (ready : Ready s plan) (x : Entry) where
     pub known-task : x .task < plan .tasks
     known-task = omega (arith, has .task, ready-tasks ready)
 
+pub known-placed : {s : List ℕ} {x : Entry} → Known (table-of s) (request-in x) → x .arrival ≤ last-arrival →
+    Placed s x
+known-placed known near = record { known = record { task = known .task; frame = known .frame }; near = near }
+
 -- a record that rule 10 passes, and so one with no fault, may be told to `after`
 module _ {s : List ℕ} {x : Entry} (b : SoFar) where
-  pub passed-placed : misplaced (table-of s) b x ≡ false → Placed s x
+  passed-placed : misplaced (table-of s) b x ≡ false → Placed s x
   passed-placed fine =
-      let kept = catches-place (table-of s) b x .passed fine in
-      record { known = record { task = kept .known .task; frame = kept .known .frame }; near = kept .near }
+      let kept = catches-place (table-of s) b x .passed fine in known-placed (kept .known) (kept .near)
 
   pub fine-placed : {fault : ℕ} → fault ≡ fault-of (table-of s) b x → fault ≡ 0 → Placed s x
   fine-placed is none = passed-placed (none-10 (misplaced (table-of s) b x) (out-of-turn b x) (sym is ∙ none))

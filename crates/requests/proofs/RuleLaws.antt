@@ -75,8 +75,8 @@ module _ {table : Table} {s : List ℕ} {i : ℕ} {b : SoFar} (carried : Carried
       (entry-of s i .frame + 1 ≡ next) × (from ≤ entry-of s i .arrival)
   told (unseen is never) in-turn some = absurd (omega arith)
   told (seen m latest next-is from-is) in-turn some =
-      let follows = in-turn m (latest-next latest) in
-      (omega (arith, next-is, follows .frame-is), omega (arith, from-is, follows .not-soon))
+      let on = in-turn m (latest-next latest) in
+      (omega (arith, next-is, on .frame-is), omega (arith, from-is, on .not-soon))
 
   catches-11 : In-place table s i → Catches (out-of-turn b (entry-of s i)) (In-turn table s i)
   catches-11 place =

@@ -1,8 +1,8 @@
 -- The tests of the rules 10 and 11, of any table, state and record: what is left where each is false.
 -- Assumes nothing.
-use Prim.Native.Nat.{ℕ, _+_, _≤_, _<_}
+use Prim.Native.Nat.{_+_, _≤_, _<_}
 use mathlib.Core.Path.{_≡_, refl}
-use mathlib.Core.Bool.{Bool, true, false, false≢true}
+use mathlib.Core.Bool.{Bool, true, false}
 use lib.ListN.{getD}
 use native.Mathlib.Omega.{arith}
 use Rattle.laws.proofs.Tests.{Catches, catches-as, catches-lt, catches-le, catches-ne, catches-or, catches-when, catches-past}

@@ -13,7 +13,7 @@ pub struct Entry {
     pub arrival: u32,
 }
 
-fn wide(x: u16) -> u32
+pub fn wide(x: u16) -> u32
     ensures { λ r. ⌜ (r ≡ x) × (r < 65536) ⌝ }
 {
     x as u32

@@ -11,8 +11,8 @@ ghost use Rattle.requests.specs.Rules.{next-of, soonest, after-of, Place
 // "arrivals 0 to 65,535"
 pub const LAST_ARRIVAL: u32 = 65535;
 
-// What the records so far say. The next record comes after `arrival`, or at it with a task from `task` on; of each task,
-// `next` is one more than the frame that has to come next, or 0 where any may, and it may not come before `from`.
+// What the records so far say. The next record comes after `arrival`, or at it with a task from `task` on; of each
+// task, `next` is one more than the frame that has to come next, or 0 where any may, and it may not come before `from`.
 pub struct SoFar {
     pub arrival: u32,
     pub task: u16,
@@ -82,9 +82,10 @@ fn soonest_after(s: &[u8], plan: Plan, x: Entry) -> u32
     ensures { λ r. ⌜ r ≡ soonest (table-of (now (s .entry))) x ⌝ }
 {
     let frame = table::frame::frame_at(s, plan, x.task as usize, x.frame as usize);
-    x.arrival + frame.p as u32
+    x.arrival + crate::entry::wide(frame.p)
 }
 
+// What is known after a good record.
 pub fn after(s: &[u8], plan: Plan, b: SoFar, x: Entry) -> SoFar
     requires { ⌜ Ready (now s) plan × Placed (now s) x ⌝ }
     ensures { λ r. ⌜ r ≡ after-of (table-of (now (s .entry))) b x ⌝ }

@@ -1,5 +1,5 @@
--- `requests::reader::check_list` meets its contract. The loop's invariant, `Checks-on`: before record i, checking on from
--- there with what is carried from the records passed gives the whole answer. The measure is the records left.
+-- `requests::reader::check_list` meets its contract. The loop's invariant, `Checks-on`: before record i, checking on
+-- from there with what is carried from the records passed gives the whole answer. The measure is the records left.
 -- Assumes nothing.
 use Prim.Native.Nat.{_-_}
 use mathlib.Core.Path.{sym, _∙_}

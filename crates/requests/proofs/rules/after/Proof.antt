@@ -1,4 +1,5 @@
--- `requests::rules::after` meets its contract: the record's task is one of the 16 places, and its next frame is set there.
+-- `requests::rules::after` meets its contract: the record's task has one of the 16 places, and both arrays are set
+-- there.
 -- Assumes nothing.
 use borrow.Author.Needs.{needs}
 use Rattle.requests.proofs.PlacedLaws.{known-low}
@@ -7,13 +8,14 @@ use Rattle.requests.proofs.rules.after.Tie as tie
 
 array-write-next : tie.Need-array-write-next
 array-write-next c =
-    let entry = c .before .before .before .before in
+    let at-next = c .before in
+    let entry = at-next .before .before .before in
     known-low (entry .pre .0) (entry .args .x) (entry .pre .1 .known)
 
 array-write-from : tie.Need-array-write-from
 array-write-from c =
-    let at-next = c .before .before in
-    let entry = at-next .before .before .before .before in
+    let at-next = c .before .before .before in
+    let entry = at-next .before .before .before in
     known-low (entry .pre .0) (entry .args .x) (entry .pre .1 .known)
 
 returns : tie.Need-returns

@@ -19,7 +19,8 @@ returns-2 : tie.Need-returns-2
 returns-2 c =
     let placed = c .before .before in
     let entry = placed .before .before .before in
-    fault-11 (entry .pre) (entry .args .b) (entry .args .x) (placed .before .is-misplaced .ensures) (placed .if1 .left)
+    fault-11 (entry .pre) (entry .args .b) (entry .args .x) (placed .before .is-misplaced .ensures)
+    (placed .if1 .left)
     (c .before .is-out-of-turn .ensures)
     (c .if2 .taken)
 
@@ -27,7 +28,8 @@ returns-3 : tie.Need-returns-3
 returns-3 c =
     let placed = c .before .before in
     let entry = placed .before .before .before in
-    fault-none (entry .pre) (entry .args .b) (entry .args .x) (placed .before .is-misplaced .ensures) (placed .if1 .left)
+    fault-none (entry .pre) (entry .args .b) (entry .args .x) (placed .before .is-misplaced .ensures)
+    (placed .if1 .left)
     (c .before .is-out-of-turn .ensures)
     (c .if2 .left)
 

@@ -1,4 +1,4 @@
--- `requests::rules::is_unknown` meets its contract: a task past the last is unknown, and of the others the frame decides.
+-- `requests::rules::is_unknown` meets its contract: a task past the last is unknown; of the others the frame decides.
 -- Assumes nothing.
 use borrow.Author.Needs.{needs}
 use Rattle.requests.proofs.PlacedLaws.{unknown-task, unknown-frame}

@@ -1,6 +1,6 @@
 -- The loop that loads the bench: before request i the slots below i hold their requests, and the others 0.
 -- Assumes nothing.
-use mathlib.Core.Path.{_≡_, refl, sym, ap, _∙_}
+use mathlib.Core.Path.{_≡_, refl, sym, _∙_}
 use mathlib.Core.Logic.{inl, inr}
 use mathlib.Core.List.{List}
 use Prim.Native.Nat.{ℕ, _+_, _*_, _≤_, _<_}
@@ -9,17 +9,18 @@ use lib.ListN.{length, getD, set, replicate, length-set}
 use lib.Seq.{ext-getD, getD-set-same, getD-set-other}
 use Rattle.laws.specs.Sums.{tabulate}
 use Rattle.laws.proofs.Cases.{lt-or-le}
-use Rattle.model.specs.Task.{Table}
 use Rattle.model.specs.Jobs.{jobs-of}
-use Rattle.model.specs.Request.{Known, last-arrival}
-use Rattle.table.specs.Bytes.{size}
+use Rattle.table.specs.Bytes.{size, records}
+use Rattle.table.specs.TableOf.{table-of}
 use Rattle.requests.specs.declared.entry.Entry.{Entry}
-use Rattle.requests.specs.Entry.{entry-of, request-in, list-of}
-use Rattle.requests.specs.Accepted.{In-place}
+use Rattle.requests.specs.Entry.{entry-of, list-of}
+use Rattle.requests.specs.Rules.{Placed}
+use Rattle.requests.specs.Accepted.{Listed}
+use Rattle.requests.proofs.AcceptedLaws.{accepted-few, entry-room, accepted-placed}
 use Rattle.bench.specs.declared.load.Slot.{Slot}
 use Rattle.bench.specs.declared.state.Outcome.the-variants.{Running}
 use Rattle.bench.specs.Rule.{slots}
-use Rattle.bench.specs.Loaded.{slots-of, loaded, no-jobs, Listed, Slot-is}
+use Rattle.bench.specs.Loaded.{slots-of, loaded, no-jobs, Slot-is}
 use Rattle.bench.proofs.LoadedLaws.{slots-length, slots-at, slots-past}
 
 -- ---- one array
@@ -57,51 +58,49 @@ slots-turn f i {v} room is = ext-getD 0 (set (slots-of i f) i v) (slots-of (i + 
 
 -- ---- the four arrays
 
-pub record Loading (table : Table) (list : List ℕ) (n i : ℕ) (left due arrive task : List ℕ) : Type 0 where
+pub record Loading (s list : List ℕ) (n i : ℕ) (left due arrive task : List ℕ) : Type 0 where
   pub within : i ≤ n
   pub few : n ≤ slots
-  pub listed : Listed table list n
-  pub left-is : left ≡ slots-of i (jobs-of table (list-of list) .amount)
-  pub due-is : due ≡ slots-of i (jobs-of table (list-of list) .due)
-  pub arrive-is : arrive ≡ slots-of i (jobs-of table (list-of list) .arrive)
-  pub task-is : task ≡ slots-of i (jobs-of table (list-of list) .task)
+  pub listed : Listed (table-of s) list n
+  pub left-is : left ≡ slots-of i (jobs-of (table-of s) (list-of list) .amount)
+  pub due-is : due ≡ slots-of i (jobs-of (table-of s) (list-of list) .due)
+  pub arrive-is : arrive ≡ slots-of i (jobs-of (table-of s) (list-of list) .arrive)
+  pub task-is : task ≡ slots-of i (jobs-of (table-of s) (list-of list) .task)
 
-pub loading-start : {table : Table} {list : List ℕ} {n : ℕ} → Listed table list n
-    → let none : List ℕ = replicate slots 0 in Loading table list n 0 none none none none
-loading-start {table} {list} listed =
+pub loading-start : {s list : List ℕ} {n : ℕ} → Listed (table-of s) list n
+    → let none : List ℕ = replicate slots 0 in Loading s list n 0 none none none none
+loading-start {s} {list} listed =
+    let jobs = jobs-of (table-of s) (list-of list) in
     record {
       within = omega arith;
-      few = omega (arith, listed .count-is, listed .accepted .long .few);
+      few = omega (arith, listed .count-is, accepted-few (listed .accepted));
       listed = listed;
-      left-is = slots-none (jobs-of table (list-of list) .amount);
-      due-is = slots-none (jobs-of table (list-of list) .due);
-      arrive-is = slots-none (jobs-of table (list-of list) .arrive);
-      task-is = slots-none (jobs-of table (list-of list) .task);
+      left-is = slots-none (jobs .amount);
+      due-is = slots-none (jobs .due);
+      arrive-is = slots-none (jobs .arrive);
+      task-is = slots-none (jobs .task);
     }
 
-module _ {table : Table} {list : List ℕ} {n i : ℕ} {left due arrive task : List ℕ}
-    (so-far : Loading table list n i left due arrive task) where
+module _ {s list : List ℕ} {n i : ℕ} {left due arrive task : List ℕ}
+    (so-far : Loading s list n i left due arrive task) where
   module _ (more : i < n) where
+    here : i < records list
+    here = omega (arith, so-far .listed .count-is)
+
     pub loading-room : (i + 1) * size ≤ length list
-    loading-room = omega (arith, so-far .listed .count-is)
+    loading-room = entry-room list i here
 
-    module _ {x : Entry} (here : x ≡ entry-of list i) where
-      in-place : In-place table list i
-      in-place = so-far .listed .accepted .good i (omega (arith, so-far .listed .count-is)) .in-place
+    module _ {x : Entry} (read : x ≡ entry-of list i) where
+      pub loading-placed : Placed s x
+      loading-placed = rw read (accepted-placed (so-far .listed .accepted) i here)
 
-      pub loading-known : Known table (request-in x)
-      loading-known = rw here (in-place .known)
-
-      pub loading-near : x .arrival ≤ last-arrival
-      loading-near = rw here (in-place .near)
-
-      pub loading-turn : {slot : Slot} → Slot-is table x slot
-          → Loading table list n (i + 1) (set left i (slot .left)) (set due i (slot .due))
-          (set arrive i (slot .arrive)) (set task i (slot .task))
+      pub loading-turn : {slot : Slot} → Slot-is (table-of s) x slot
+          → Loading s list n (i + 1) (set left i (slot .left)) (set due i (slot .due)) (set arrive i (slot .arrive))
+          (set task i (slot .task))
       loading-turn {slot} is =
-          let jobs = jobs-of table (list-of list) in
+          let jobs = jobs-of (table-of s) (list-of list) in
           let room : i < slots = omega (arith, so-far .few) in
-          let same : Slot-is table (entry-of list i) slot = rw here at is in
+          let same : Slot-is (table-of s) (entry-of list i) slot = rw read at is in
           record {
             within = omega arith;
             few = so-far .few;
@@ -114,21 +113,17 @@ module _ {table : Table} {list : List ℕ} {n i : ℕ} {left due arrive task : L
 
   pub loading-done : n ≤ i
       → record { tick = 0; left = left; due = due; arrive = arrive; task = task; outcome = Running }
-      ≡ loaded (jobs-of table (list-of list))
+      ≡ loaded (jobs-of (table-of s) (list-of list))
   unfolding loaded
   loading-done done =
       let all : i ≡ list-of list .count = omega (arith, so-far .within, so-far .listed .count-is) in
       rw (so-far .left-is, so-far .due-is, so-far .arrive-is, so-far .task-is, all)
 
-pub loaded-none : record {
-  tick = 0;
-  left = replicate slots 0;
-  due = replicate slots 0;
-  arrive = replicate slots 0;
-  task = replicate slots 0;
-  outcome = Running;
-}
-    ≡ loaded no-jobs
+-- nothing to load
+abbrev zeros : List ℕ
+zeros = replicate slots 0
+
+pub loaded-none :
+    record { tick = 0; left = zeros; due = zeros; arrive = zeros; task = zeros; outcome = Running } ≡ loaded no-jobs
 unfolding loaded
-loaded-none =
-    rw (sym (slots-none (no-jobs .amount)))
+loaded-none = rw (sym (slots-none (no-jobs .amount)))

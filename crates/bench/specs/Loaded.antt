@@ -9,9 +9,7 @@ use Rattle.laws.specs.Sums.{tabulate}
 use Rattle.model.specs.Task.{Table}
 use Rattle.model.specs.Jobs.{Jobs}
 use Rattle.model.specs.Replay.{Replayed, missed, all-met, last-tick}
-use Rattle.table.specs.Bytes.{records}
 use Rattle.requests.specs.declared.entry.Entry.{Entry}
-use Rattle.requests.specs.Accepted.{Accepted}
 use Rattle.bench.specs.declared.load.Slot.{Slot}
 use Rattle.bench.specs.declared.state.Bench.{Bench}
 use Rattle.bench.specs.declared.state.Outcome.{Outcome}
@@ -43,11 +41,6 @@ pub record Slot-is (table : Table) (x : Entry) (r : Slot) : Type 0 where
   pub due-is : r .due ≡ x .arrival + table .task (x .task) .D (x .frame)
   pub arrive-is : r .arrive ≡ x .arrival
   pub task-is : r .task ≡ x .task
-
--- the bytes are a request list of the table, of n records
-pub record Listed (table : Table) (list : List ℕ) (n : ℕ) : Type 0 where
-  pub accepted : Accepted table list
-  pub count-is : n ≡ records list
 
 -- "All runs end by tick 131,070": a state at that tick is still taken
 unfoldable pub run-whole : Bench → Bench

@@ -8,9 +8,10 @@ ghost use mathlib.Core.Path.{_≡_};
 ghost use Rattle.model.specs.Jobs.{jobs-of};
 ghost use Rattle.table.specs.Ready.{Ready};
 ghost use Rattle.table.specs.TableOf.{table-of};
+ghost use Rattle.requests.specs.Accepted.{Listed};
 ghost use Rattle.requests.specs.Entry.{list-of};
 ghost use Rattle.requests.specs.Rules.{Placed};
-ghost use Rattle.bench.specs.Loaded.{loaded, no-jobs, Listed, Slot-is};
+ghost use Rattle.bench.specs.Loaded.{loaded, no-jobs, Slot-is};
 
 // The bench with nothing to do.
 pub fn empty() -> Bench

@@ -6,8 +6,9 @@ ghost use mathlib.Core.Path.{_≡_};
 ghost use Rattle.model.specs.Jobs.{jobs-of};
 ghost use Rattle.table.specs.Ready.{Ready};
 ghost use Rattle.table.specs.TableOf.{table-of};
+ghost use Rattle.requests.specs.Accepted.{Listed};
 ghost use Rattle.requests.specs.Entry.{list-of};
-ghost use Rattle.bench.specs.Loaded.{Listed, answer-of, replay-of};
+ghost use Rattle.bench.specs.Loaded.{answer-of, replay-of};
 ghost use Rattle.bench.specs.Written.{replayed-of};
 
 // What a replay answers: the miss with its tick and record index, or *all met* with the tick after the last unit.

@@ -17,9 +17,11 @@ use Rattle.requests.specs.declared.reader.Checked.{Checked}
 use Rattle.requests.specs.declared.reader.Checked.the-variants.{Legal, Refused}
 use Rattle.requests.specs.Entry.{list-of}
 use Rattle.requests.specs.Reader.{check-of, refusal-in}
-use Rattle.requests.proofs.Exact.{check-good, check-count}
+use Rattle.requests.specs.Accepted.{Listed}
+use Rattle.requests.proofs.Exact.{check-count}
+use Rattle.requests.proofs.AcceptedLaws.{listed}
 use Rattle.bench.specs.declared.state.Bench.{Bench}
-use Rattle.bench.specs.Loaded.{loaded, no-jobs, Listed}
+use Rattle.bench.specs.Loaded.{loaded, no-jobs}
 use Rattle.desk.specs.Questions.{on-list, list-asked}
 use Rattle.desk.specs.Written.{checked-of, loaded-in}
 
@@ -51,11 +53,7 @@ module _ (s list : List ℕ) (shape : Shape) (read : reading-of s ≡ reading.Ta
 
       -- a list that passed is one for the bench
       pub list-listed : Listed (table-of s) list n
-      list-listed =
-          record {
-            accepted = check-good (table-of s) few list n (sym is ∙ told);
-            count-is = check-count (table-of s) few list n (sym is ∙ told);
-          }
+      list-listed = listed (table-of s) few list n (sym is ∙ told)
 
 -- ---- the check and the bench beside it
 

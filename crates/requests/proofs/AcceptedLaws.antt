@@ -9,15 +9,12 @@ use native.Mathlib.Omega.{arith}
 use Rattle.model.specs.Task.{Table}
 use Rattle.model.specs.Request.{Legal, Sorted, last-arrival}
 use Rattle.table.specs.Bytes.{size, records}
-use Rattle.table.specs.Ready.{Ready}
 use Rattle.table.specs.TableOf.{table-of}
-use Rattle.table.specs.declared.plan.Plan.{Plan}
-use Rattle.table.proofs.ReadyLaws.{ready-few}
 use Rattle.requests.specs.declared.reader.Checked.the-variants as checked
 use Rattle.requests.specs.Entry.{entry-of, list-of}
 use Rattle.requests.specs.Rules.{Placed}
 use Rattle.requests.specs.Reader.{most-requests, check-of}
-use Rattle.requests.specs.Accepted.{Length-right, Accepted}
+use Rattle.requests.specs.Accepted.{Accepted, In-rule, Listed}
 use Rattle.requests.proofs.LengthLaws.{right-few}
 use Rattle.requests.proofs.PlacedLaws.{known-placed}
 use Rattle.requests.proofs.Exact.{check-good, check-count}
@@ -44,16 +41,19 @@ module _ {table : Table} {s : List ℕ} (accepted : Accepted table s) where
   pub accepted-near : (i : ℕ) → i < records s → list-of s .request i .arrival ≤ last-arrival
   accepted-near i within = accepted .good i within .in-place .near
 
--- and back: these are all that is asked
-pub record In-rule (table : Table) (s : List ℕ) : Type 0 where
-  pub long : Length-right (length s)
-  pub pads : (i : ℕ) → i < records s → entry-of s i .pad ≡ 0
-  pub legal : Legal table (list-of s)
-  pub sorted : Sorted (list-of s)
-  pub near : (i : ℕ) → i < records s → list-of s .request i .arrival ≤ last-arrival
+pub accepted-in-rule : {table : Table} {s : List ℕ} → Accepted table s → In-rule table s
+accepted-in-rule accepted =
+    record {
+      long = accepted .long;
+      pads = accepted-pads accepted;
+      legal = accepted-legal accepted;
+      sorted = accepted-sorted accepted;
+      near = accepted-near accepted;
+    }
 
-pub legal-accepted : {table : Table} {s : List ℕ} → In-rule table s → Accepted table s
-legal-accepted rules =
+-- and back: these are all that is asked
+pub in-rule-accepted : {table : Table} {s : List ℕ} → In-rule table s → Accepted table s
+in-rule-accepted rules =
     record {
       long = rules .long;
       good = λ j within.
@@ -80,22 +80,6 @@ pub accepted-placed : {s list : List ℕ} → Accepted (table-of s) list → (j 
 accepted-placed accepted j within =
     let place = accepted .good j within .in-place in known-placed (place .known) (place .near)
 
-pub record Listed (s list : List ℕ) (n : ℕ) : Type 0 where
-  pub accepted : Accepted (table-of s) list
-  pub count-is : n ≡ records list
-  pub few : n ≤ most-requests
-  pub room : (j : ℕ) → j < n → (j + 1) * size ≤ length list
-  pub placed : (j : ℕ) → j < n → Placed s (entry-of list j)
-
-pub listed : {s : List ℕ} {plan : Plan} → Ready s plan → (list : List ℕ) (n : ℕ) →
-    check-of (table-of s) list ≡ checked.Legal n → Listed s list n
-listed {s} ready list n is =
-    let accepted = check-good (table-of s) (ready-few ready) list n is in
-    let count = check-count (table-of s) (ready-few ready) list n is in
-    record {
-      accepted = accepted;
-      count-is = count;
-      few = omega (arith, count, accepted-few accepted);
-      room = λ j within. entry-room list j (omega (arith, count));
-      placed = λ j within. accepted-placed accepted j (omega (arith, count));
-    }
+pub listed : (table : Table) → table .tasks ≤ 16 → (s : List ℕ) (n : ℕ) → check-of table s ≡ checked.Legal n →
+    Listed table s n
+listed table few s n is = record { accepted = check-good table few s n is; count-is = check-count table few s n is }

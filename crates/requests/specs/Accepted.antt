@@ -5,7 +5,7 @@ use mathlib.Core.Path.{_≡_}
 use mathlib.Core.List.{List}
 use lib.ListN.{length}
 use Rattle.model.specs.Task.{Table}
-use Rattle.model.specs.Request.{Known, Next, Follows, Before, last-arrival}
+use Rattle.model.specs.Request.{Known, Next, Follows, Legal, Before, Sorted, last-arrival}
 use Rattle.table.specs.Bytes.{size, records}
 use Rattle.requests.specs.Entry.{entry-of, list-of}
 use Rattle.requests.specs.Reader.{most-requests}
@@ -34,3 +34,16 @@ pub record Good (table : Table) (s : List ℕ) (j : ℕ) : Type 0 where
 pub record Accepted (table : Table) (s : List ℕ) : Type 0 where
   pub long : Length-right (length s)
   pub good : (j : ℕ) → j < records s → Good table s j
+
+-- the same of the list as a whole: a legal list that is sorted, with no late arrival, at most 128 records, and zero pads
+pub record In-rule (table : Table) (s : List ℕ) : Type 0 where
+  pub long : Length-right (length s)
+  pub pads : (i : ℕ) → i < records s → entry-of s i .pad ≡ 0
+  pub legal : Legal table (list-of s)
+  pub sorted : Sorted (list-of s)
+  pub near : (i : ℕ) → i < records s → list-of s .request i .arrival ≤ last-arrival
+
+-- what a caller that has checked a list of n records knows of it
+pub record Listed (table : Table) (s : List ℕ) (n : ℕ) : Type 0 where
+  pub accepted : Accepted table s
+  pub count-is : n ≡ records s

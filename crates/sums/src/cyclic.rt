@@ -1,7 +1,7 @@
 // The cyclic sum of one task from one start frame.
 ghost use mathlib.Core.Path.{_≡_};
 ghost use mathlib.Core.Bool.{cond};
-ghost use Prim.Native.Nat.{_+_, _-_, _*_, _%_, _<_, _≤_};
+ghost use Prim.Native.Nat.{_+_, _-_, _%_, _<_, _≤_};
 ghost use lib.Dec.{leb};
 ghost use Rattle.laws.specs.Sums.{only};
 ghost use Rattle.table.specs.TableOf.{task-of};

@@ -1,8 +1,4 @@
 // The greatest cyclic sum of one task over all its start frames, with the lowest frame that gives it.
-ghost use mathlib.Core.Path.{_≡_};
-ghost use mathlib.Core.Bool.{cond};
-ghost use Prim.Native.Nat.{max};
-ghost use lib.Dec.{ltb};
 ghost use Rattle.table.specs.TableOf.{task-of};
 ghost use Rattle.sums.specs.Sized.{Stands, Raised, Greatest};
 

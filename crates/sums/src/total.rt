@@ -1,7 +1,6 @@
 // One task's peak by its number, and the sum over all tasks.
 use crate::peak::Peak;
 use table::plan::Plan;
-ghost use mathlib.Core.Path.{_≡_};
 ghost use Prim.Native.Nat.{_<_, _≤_};
 ghost use Rattle.table.specs.Ready.{Ready};
 ghost use Rattle.table.specs.TableOf.{table-of};

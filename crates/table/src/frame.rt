@@ -1,8 +1,7 @@
 // One task of a good table by its number: how many frames it has, and each frame's record.
 use crate::plan::Plan;
 use crate::record::Record;
-ghost use mathlib.Core.Path.{_≡_};
-ghost use Prim.Native.Nat.{_<_, _≤_};
+ghost use Prim.Native.Nat.{_<_};
 ghost use Rattle.table.specs.TableOf.{table-of};
 ghost use Rattle.table.specs.Ready.{Ready, Has-frame, Frame-is, Frames};
 

@@ -3,14 +3,13 @@
 -- Assumes nothing.
 use Prim.Native.Nat.{_-_}
 use borrow.Author.Needs.{needs}
-use Rattle.table.specs.TableOf.{table-of}
-use Rattle.bench.proofs.LoadTurns.{Loading, loading-start, loading-room, loading-known, loading-near, loading-turn, loading-done}
+use Rattle.bench.proofs.LoadTurns.{Loading, loading-start, loading-room, loading-placed, loading-turn, loading-done}
 use Rattle.bench.proofs.load.load.Statement.{statement}
 use Rattle.bench.proofs.load.load.Tie as tie
 
 abbrev Inv-loop : tie.InvT-loop
 Inv-loop s plan list n left₀ due₀ arrive₀ task₀ i₀ left due arrive task i =
-    Loading (table-of s) list n i left due arrive task
+    Loading s list n i left due arrive task
 
 abbrev μ-loop : tie.MeasureT-loop
 μ-loop s plan list n left₀ due₀ arrive₀ task₀ i₀ left due arrive task i = n - i
@@ -23,10 +22,7 @@ entry-at-requires c κs = loading-room (c .before .loop .inv) (search needs)
 
 slot-of-requires : tie.Need-slot-of-requires Inv-loop μ-loop
 slot-of-requires c κs =
-    let inv = c .before .before .loop .inv in
-    let known = loading-known inv (search needs) (c .entry-at .ensures) in
-    let near = loading-near inv (search needs) (c .entry-at .ensures) in
-    (search needs, record { known = record { task = known .task; frame = known .frame }; near = near })
+    (search needs, loading-placed (c .before .before .loop .inv) (search needs) (c .entry-at .ensures))
 
 loop-again : tie.Need-loop-again Inv-loop μ-loop
 loop-again c =

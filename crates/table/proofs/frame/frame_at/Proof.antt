@@ -2,7 +2,6 @@
 -- Assumes nothing.
 use Prim.Native.Nat.{_<_}
 use native.Mathlib.Omega.{arith}
-use borrow.Author.Needs.{needs}
 use Rattle.table.proofs.ReadyLaws.{ready-slot, ready-near, ready-room, ready-frame}
 use Rattle.table.proofs.frame.frame_at.Statement.{statement}
 use Rattle.table.proofs.frame.frame_at.Tie as tie

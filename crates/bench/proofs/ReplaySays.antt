@@ -1,33 +1,45 @@
 -- What the replay of a loaded list answers is what document 01 says of the machine, and every run ends by tick 131,070.
 -- Assumes nothing.
+use mathlib.Core.List.{List}
 use mathlib.Core.Path.{_≡_, refl, ap, ap₂, subst, sym, _∙_}
 use Prim.Native.Nat.{ℕ, suc, _≤_, _<_}
 use native.Mathlib.Omega.{arith}
 use native.Mathlib.Nat.{le-refl, le-step}
-use Rattle.model.specs.Task.{Table}
-use Rattle.model.specs.Request.{Requests, last-arrival}
+use Rattle.model.specs.Task.{Table, ProperTable}
+use Rattle.model.specs.Request.{last-arrival}
 use Rattle.model.specs.Jobs.{Jobs, jobs-of}
 use Rattle.model.specs.Machine.{sooner}
 use Rattle.model.specs.Replay.{Replayed, all-met, Says, Met, last-tick}
 use Rattle.model.proofs.ReplayLaws.{says-one}
+use Rattle.requests.specs.Entry.{list-of}
+use Rattle.requests.specs.Accepted.{Accepted}
+use Rattle.requests.proofs.AcceptedLaws.{accepted-legal, accepted-few, accepted-near}
 use Rattle.bench.specs.declared.state.Bench.{Bench}
 use Rattle.bench.specs.declared.state.Outcome.{Outcome}
 use Rattle.bench.specs.declared.state.Outcome.the-variants.{Running, Missed, AllMet}
-use Rattle.bench.specs.Rule.{slots, run-of}
+use Rattle.bench.specs.Rule.{run-of}
 use Rattle.bench.specs.Loaded.{loaded, run-whole, answer-of, replay-of}
 use Rattle.bench.specs.Meaning.{Replayable, Ended}
 use Rattle.bench.proofs.TickLaws.{missed-stopped, met-stopped, run-longer}
 use Rattle.bench.proofs.OneUnit.{tick-stands}
 use Rattle.bench.proofs.MachineRun.{Behind, Stage, runs, missed, met, run-stage}
 
--- "arrivals 0 to 65,535", and D at most as much
-pub list-replayable : (table : Table) (list : Requests) → list .count ≤ slots
-    → ((i : ℕ) → i < list .count → list .request i .arrival ≤ last-arrival)
-    → ((i : ℕ) → i < list .count → table .task (list .request i .task) .D (list .request i .frame) ≤ 65535)
-    → Replayable (jobs-of table list)
+-- "arrivals 0 to 65,535", and D at most as much: so every list that is accepted can be replayed
+pub accepted-replayable : {table : Table} → ProperTable table → (list : List ℕ) → Accepted table list
+    → Replayable (jobs-of table (list-of list))
 unfolding last-arrival last-tick
-list-replayable table list fits early short =
-    record { fits = fits; in-time = λ k inside. omega (arith, early k inside, short k inside) }
+accepted-replayable proper list accepted =
+    record {
+      fits = accepted-few accepted;
+      in-time = λ k inside.
+          let known = accepted-legal accepted .known k inside in
+          omega (
+            arith,
+            accepted-near accepted k inside,
+            proper .proper (list-of list .request k .task) (known .task) .soon (list-of list .request k .frame)
+                (known .frame),
+          );
+    }
 
 module _ (jobs : Jobs) (good : Replayable jobs) where
   -- what was undone at the last tick was late at it

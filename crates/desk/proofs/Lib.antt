@@ -2,3 +2,4 @@ pub mod AskLaws
 pub mod SameLaws
 pub mod NamedLaws
 pub mod ListLaws
+pub mod ListExact

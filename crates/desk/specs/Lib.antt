@@ -1,3 +1,4 @@
 pub mod Questions
 pub mod Written
 pub mod Named
+pub mod Refusals

@@ -21,6 +21,7 @@ pub record Proper (task : Task) : Type 0 where
   pub runs : (i : ℕ) → i < task .count → 1 ≤ task .E i
   pub short : (i : ℕ) → i < task .count → task .E i ≤ 65535
   pub waits : (i : ℕ) → i < task .count → 1 ≤ task .D i
+  pub soon : (i : ℕ) → i < task .count → task .D i ≤ 65535
   pub moves : (i : ℕ) → i < task .count → 1 ≤ task .P i
 
 -- ".. 16 tasks"

@@ -6,7 +6,7 @@ use mathlib.Core.List.{List}
 use lib.ListN.{getD}
 use native.Mathlib.Omega.{arith}
 use Rattle.model.specs.Task.{Proper, ProperTable}
-use Rattle.table.specs.Bytes.{size, records, record-of}
+use Rattle.table.specs.Bytes.{size, records, half, record-of}
 use Rattle.table.specs.WellFormed.{Good, WellFormed}
 use Rattle.table.specs.TableOf.{records-before, records-of, task-of, table-of}
 use Rattle.table.proofs.Rising.{few-tasks}
@@ -35,9 +35,16 @@ module _ (s : List ℕ) (first count : ℕ) where
 
 module _ (s : List ℕ) (bytes : (i : ℕ) → getD s i 0 < 256) where
   -- "each 1 to 65,535": two bytes hold no more
+  half-most : (at : ℕ) → half s at ≤ 65535
+  half-most at = omega (arith, bytes at, bytes (at + 1))
+
   e-most : (i : ℕ) → record-of s i .e ≤ 65535
   unfolding record-of
-  e-most i = omega (arith, bytes (i * size + 2), bytes (i * size + 2 + 1))
+  e-most i = half-most (i * size + 2)
+
+  d-most : (i : ℕ) → record-of s i .d ≤ 65535
+  unfolding record-of
+  d-most i = half-most (i * size + 4)
 
   -- a task whose frames are good records
   task-proper : (first count : ℕ) → 1 ≤ count → count ≤ 16 → ((i : ℕ) → i < count → Good s (first + i)) →
@@ -50,6 +57,7 @@ module _ (s : List ℕ) (bytes : (i : ℕ) → getD s i 0 < 256) where
         runs = λ i within. good i within .not-zero .e;
         short = λ i within. e-most (first + i);
         waits = λ i within. good i within .not-zero .d;
+        soon = λ i within. d-most (first + i);
         moves = λ i within. good i within .not-zero .p;
       }
 

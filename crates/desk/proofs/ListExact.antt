@@ -1,0 +1,93 @@
+-- Every question about a request list, whatever it asks: answered exactly where table and list are good, and refused
+-- exactly where document 01 names that refusal. And what a replay's answer says of the machine.
+-- Assumes nothing.
+use Prim.Native.Nat.{ℕ}
+use mathlib.Core.Path.{_≡_, refl, ap, subst, _∙_}
+use mathlib.Core.Logic.{inl, inr}
+use mathlib.Core.List.{List, []}
+use native.Mathlib.Omega.{arith}
+use Rattle.model.specs.Task.{Table}
+use Rattle.model.specs.Request.{Requests}
+use Rattle.model.specs.Jobs.{jobs-of}
+use Rattle.model.specs.Machine.{sooner}
+use Rattle.model.specs.Replay.{Replayed, all-met, Says}
+use Rattle.model.specs.Answer.{answered, refused}
+use Rattle.table.specs.declared.reader.Reading.{Reading}
+use Rattle.table.specs.declared.reader.Reading.the-variants as reading
+use Rattle.table.specs.Reader.{reading-of}
+use Rattle.table.specs.TableOf.{table-of}
+use Rattle.table.specs.WellFormed.{WellFormed}
+use Rattle.table.proofs.Exact.{read-good, good-read, read-refused, refused-read}
+use Rattle.table.proofs.ReadyLaws.{Bytes}
+use Rattle.table.proofs.Rising.{few-tasks}
+use Rattle.table.proofs.TaskLaws.{proper-table}
+use Rattle.requests.specs.declared.reader.Checked.{Checked}
+use Rattle.requests.specs.declared.reader.Checked.the-variants.{Legal, Refused}
+use Rattle.requests.specs.Entry.{list-of}
+use Rattle.requests.specs.Reader.{check-of}
+use Rattle.requests.specs.Accepted.{Accepted}
+use Rattle.requests.proofs.Exact.{check-good, good-check, check-refused, refused-check}
+use Rattle.bench.proofs.ReplaySays.{accepted-replayable, replay-says, replay-empty}
+use Rattle.desk.specs.Questions.{on-list, replays, replay-asked}
+use Rattle.desk.specs.Refusals.{Both-good, Refused-with, Told}
+
+module _ {A : Type 0} (ask : Table → Requests → A) (s list : List ℕ) where
+  -- ---- from the bytes to the answer
+
+  pub good-answered : Both-good s list → on-list s list ask ≡ answered (ask (table-of s) (list-of list))
+  good-answered good =
+      rw (good-read s (good .table-good), good-check (table-of s) (few-tasks (good .table-good)) list (good .list-good))
+
+  pub bad-refused : (number index : ℕ) → Refused-with s list number index → on-list s list ask ≡ refused number index
+  bad-refused number index (inl bad) = rw (refused-read s number index bad)
+  bad-refused number index (inr bad) =
+      rw (
+        good-read s (bad .table-good),
+        refused-check (table-of s) (few-tasks (bad .table-good)) list number index (bad .list-bad),
+      )
+
+  -- ---- and back
+
+  checked-told : WellFormed s → (x : Checked) → check-of (table-of s) list ≡ x
+      → Told s list (on-list s list ask)
+  checked-told well (Legal n) is =
+      rw (good-read s well, is)
+      (record { table-good = well; list-good = check-good (table-of s) (few-tasks well) list n is })
+  checked-told well (Refused r) is =
+      rw (good-read s well, is)
+      (inr (record { table-good = well; list-bad = check-refused (table-of s) (few-tasks well) list r is }))
+
+  pub list-told : Told s list (on-list s list ask)
+  list-told = which (reading-of s) refl
+    where
+      which : (r : Reading) → reading-of s ≡ r → Told s list (on-list s list ask)
+      which (reading.Table shape) is = checked-told (read-good s shape is) (check-of (table-of s) list) refl
+      which (reading.Refused r) is = rw is (inl (read-refused s r is))
+
+-- ---- the replay
+
+module _ (s : List ℕ) (bytes : Bytes s) (list : List ℕ) where
+  good-means : Both-good s list → Says (jobs-of (table-of s) (list-of list))
+      (sooner (jobs-of (table-of s) (list-of list))) (replays (table-of s) (list-of list))
+  good-means good =
+      replay-says (jobs-of (table-of s) (list-of list))
+      (accepted-replayable (proper-table s (λ i. bytes i .fits) (good .table-good)) list (good .list-good))
+
+  -- a replay that is answered says of the machine what document 01 says
+  pub replay-means : (r : Replayed) → replay-asked s list ≡ answered r
+      → Says (jobs-of (table-of s) (list-of list)) (sooner (jobs-of (table-of s) (list-of list))) r
+  unfolding replay-asked
+  replay-means r is =
+      let good : Both-good s list = subst (Told s list) is (list-told replays s list) in
+      let same : replays (table-of s) (list-of list) ≡ r = cc (good-answered replays s list good) in
+      rw same at (good-means good)
+
+-- "0 for an empty list"
+pub empty-met : (s : List ℕ) → WellFormed s → replay-asked s [] ≡ answered (all-met 0)
+unfolding replay-asked
+empty-met s well =
+    good-answered replays s [] (record { table-good = well; list-good = none })
+    ∙ ap answered (replay-empty (jobs-of (table-of s) (list-of [])) refl)
+  where
+    none : Accepted (table-of s) []
+    none = record { long = record { few = omega arith; whole = refl }; good = λ j within. absurd (omega arith) }

@@ -30,7 +30,8 @@ unfolding slots-of tabulate
 slots-none f = refl
 
 pub slots-turn : (f : ℕ → ℕ) (i : ℕ) {v : ℕ} → i < slots → v ≡ f i → set (slots-of i f) i v ≡ slots-of (i + 1) f
-slots-turn f i {v} room is = ext-getD 0 (set (slots-of i f) i v) (slots-of (i + 1) f) (long ∙ sym (slots-length _ f)) each
+slots-turn f i {v} room is =
+    ext-getD 0 (set (slots-of i f) i v) (slots-of (i + 1) f) (long ∙ sym (slots-length (i + 1) f)) each
   where
     long : length (set (slots-of i f) i v) ≡ slots
     long = length-set (slots-of i f) i v ∙ slots-length i f

@@ -1,6 +1,6 @@
 -- The meaning of each question on raw bytes: document 01, "What the desk computes" and "When the desk says no".
--- "Tables are tested first .. Then 7 (for one task's demand or work, 9 before 7) .. or, for a list, length, then records
--- in order, in each record 10 before 11."
+-- "Tables are tested first .. Then 7 (for one task's demand or work, 9 before 7) .. or, for a list, length, then
+-- records in order, in each record 10 before 11."
 -- Assumes nothing.
 use Prim.Native.Nat.{ℕ}
 use mathlib.Core.Bool.{Bool, cond}

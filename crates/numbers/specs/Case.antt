@@ -4,9 +4,9 @@ use mathlib.Core.List.{List}
 use Prim.Native.Nat.{ℕ, _≤_}
 use lib.ListN.{length}
 use Rattle.text.specs.Text.{Place}
-use Rattle.numbers.specs.declared.question.Lent.{Lent}
-use Rattle.numbers.specs.declared.question.Lent.the-variants.{Bytes, Not}
-use Rattle.numbers.specs.declared.question.Taken.{Taken}
+use Rattle.numbers.specs.declared.words.Lent.{Lent}
+use Rattle.numbers.specs.declared.words.Lent.the-variants.{Bytes, Not}
+use Rattle.numbers.specs.declared.words.Taken.{Taken}
 use Rattle.numbers.specs.declared.question.Parsed.{Parsed}
 use Rattle.numbers.specs.declared.question.Parsed.the-variants.{Good, Bad}
 

@@ -4,13 +4,14 @@
 // that cannot be read is said and stops nothing.
 mod question;
 mod say;
+mod words;
 
 use libc::STDERR_FILENO;
 use question::Case;
 use question::Kind;
-use question::Lent;
 use question::Parsed;
 use text::Sort;
+use words::Lent;
 ghost use Prim.Native.Nat.{_≤_};
 ghost use lib.ListN.{length};
 ghost use Rattle.numbers.specs.Case.{lent-size, table-size, place-after};
@@ -56,7 +57,7 @@ fn answer_list(number: u64, line: &[u8], name: &[u8], case: Case, table: &[u8])
     let mut space = [0u8; 2048];
     let list: &mut [u8] = &mut space;
     let kind = case.kind;
-    let lent = question::last_at(question::has_list(kind), line, case.next, list);
+    let lent = words::last_at(question::has_list(kind), line, case.next, list);
     answer_lent(number, name, case, table, list, lent);
 }
 

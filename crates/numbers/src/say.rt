@@ -1,8 +1,8 @@
 // The desk's answers, and what is wrong with a line, in words on standard output.
 ghost use mathlib.Core.Path.{_≡_};
 ghost use lib.IntN.{natAbs};
-use crate::question::Problem;
-use crate::question::What;
+use crate::words::Problem;
+use crate::words::What;
 use bench::replay::Replayed;
 use desk::Amount;
 use desk::Ending;

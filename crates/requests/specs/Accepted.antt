@@ -35,7 +35,7 @@ pub record Accepted (table : Table) (s : List ℕ) : Type 0 where
   pub long : Length-right (length s)
   pub good : (j : ℕ) → j < records s → Good table s j
 
--- the same of the list as a whole: a legal list that is sorted, with no late arrival, at most 128 records, and zero pads
+-- the same of the list as a whole: legal, sorted, with no late arrival, of at most 128 records, and with zero pads
 pub record In-rule (table : Table) (s : List ℕ) : Type 0 where
   pub long : Length-right (length s)
   pub pads : (i : ℕ) → i < records s → entry-of s i .pad ≡ 0

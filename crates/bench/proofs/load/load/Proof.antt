@@ -1,5 +1,5 @@
--- `bench::load::load` meets its contract. The loop's invariant, `Loading`: the slots below i hold their requests, and the
--- others 0. The measure is the requests left.
+-- `bench::load::load` meets its contract. The loop's invariant, `Loading`: the slots below i hold their requests, and
+-- the others 0. The measure is the requests left.
 -- Assumes nothing.
 use Prim.Native.Nat.{_-_}
 use borrow.Author.Needs.{needs}
@@ -27,7 +27,8 @@ slot-of-requires c κs =
 loop-again : tie.Need-loop-again Inv-loop μ-loop
 loop-again c =
     let at-entry = c .before in
-    loading-turn (at-entry .before .before .loop .inv) (search needs) (at-entry .entry-at .ensures) (c .slot-of .ensures)
+    loading-turn (at-entry .before .before .loop .inv) (search needs) (at-entry .entry-at .ensures)
+    (c .slot-of .ensures)
 
 returns : tie.Need-returns Inv-loop μ-loop
 returns c = loading-done (c .before .loop .inv) (search needs)

@@ -11,7 +11,8 @@ check-list-requires c κs = ready-read _ _ (c .before .before .before .pre) (c .
 
 returns : tie.Need-returns
 returns c =
-    let start = c .before .before .before .before in
+    let at-plan = c .before in
+    let start = at-plan .before .before .before in
     list-checked _ _ _ (start .pre) (c .check-list .ensures)
 
 pub check-in-spec : {M : Type 1} → statement M

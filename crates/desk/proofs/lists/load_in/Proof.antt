@@ -19,7 +19,8 @@ returns c =
     let taken = c .before in
     let told = taken .before in
     let at-check = told .before .before in
-    let start = at-check .before .before .before .before in
+    let at-plan = at-check .before in
+    let start = at-plan .before .before .before in
     let no = told .enum-told .given .1 in
     loaded-refused
     (list-refused _ _ _ (start .pre) (at-check .check-list .ensures) counts no (taken .refusal-of .ensures))
@@ -40,7 +41,8 @@ unfolding load-asked
 returns-2 c =
     let told = c .before .before in
     let at-check = told .before .before in
-    let start = at-check .before .before .before .before in
+    let at-plan = at-check .before in
+    let start = at-plan .before .before .before in
     let checked = list-checked _ _ _ (start .pre) (at-check .check-list .ensures) in
     loaded-answered _ (sym (told .checked .given .1) ∙ checked)
     (list-answered _ _ _ (start .pre) (at-check .check-list .ensures) (told .checked .given .1) loads)

@@ -39,7 +39,8 @@ unfolding replay-asked
 returns-2 c =
     let told = c .before .before in
     let at-check = told .before .before in
-    let start = at-check .before .before .before .before in
+    let at-plan = at-check .before in
+    let start = at-plan .before .before .before in
     ap Is (c .replay .ensures)
     ∙ ap ending-of (list-answered _ _ _ (start .pre) (at-check .check-list .ensures) (told .checked .given .1) replays)
 

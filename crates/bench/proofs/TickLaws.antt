@@ -16,6 +16,37 @@ use Rattle.bench.specs.declared.state.Outcome.the-variants.{Running, Mis
 use Rattle.bench.specs.Rule.{first-late, first-left, next-in, with-outcome, moved-on, less-one, turned, while-running, tick-of, run-of}
 use Rattle.bench.specs.Ticked.{Going}
 
+-- ---- the tick of a bench that is not stopped
+
+module _ {b : Bench} (going : Going b) where
+  goes : tick-of b ≡ turned b (first-late b) (first-left b)
+  unfolding tick-of
+  goes = rw (going .running, le-ltb _ _ (going .in-time)) refl
+
+  -- "first any request with work left and deadline at most T is a miss; the bench stops and names the one with the
+  -- lowest record index"
+  pub tick-missed : {i : ℕ} → first-late b ≡ at i → tick-of b ≡ with-outcome b (Missed i)
+  tick-missed late = goes ∙ ap (λ found. turned b found (first-left b)) late
+
+  module _ (on-time : first-late b ≡ nowhere) where
+    on : tick-of b ≡ turned b nowhere (first-left b)
+    on = goes ∙ ap (λ found. turned b found (first-left b)) on-time
+
+    pub tick-met : first-left b ≡ nowhere → tick-of b ≡ with-outcome b AllMet
+    tick-met done = on ∙ ap (turned b nowhere) done
+
+    -- "Otherwise one unit goes to .."
+    pub tick-moves : {k : ℕ} → first-left b ≡ at k → tick-of b ≡ moved-on b (less-one (b .left) (next-in b))
+    tick-moves undone = on ∙ ap (turned b nowhere) undone
+
+    module _ {k : ℕ} (undone : first-left b ≡ at k) where
+      pub tick-unit : {n : ℕ} → next-in b ≡ at n → tick-of b ≡ moved-on b (less-one (b .left) (at n))
+      tick-unit next = tick-moves undone ∙ ap (λ found. moved-on b (less-one (b .left) found)) next
+
+      -- "with none, the tick is idle"
+      pub tick-idle : next-in b ≡ nowhere → tick-of b ≡ moved-on b (b .left)
+      tick-idle none = tick-moves undone ∙ ap (λ found. moved-on b (less-one (b .left) found)) none
+
 -- ---- a bench that has stopped is not running
 
 pub missed-stopped : {outcome : Outcome} {i : ℕ} → outcome ≡ Missed i → outcome ≡ Running → ⊥
@@ -48,37 +79,6 @@ module _ (b : Bench) where
       which Running = refl
       which (Missed i) = refl
       which AllMet = refl
-
--- ---- the tick of a bench that is not stopped
-
-module _ {b : Bench} (going : Going b) where
-  goes : tick-of b ≡ turned b (first-late b) (first-left b)
-  unfolding tick-of
-  goes = rw (going .running, le-ltb _ _ (going .in-time)) refl
-
-  -- "first any request with work left and deadline at most T is a miss; the bench stops and names the one with the
-  -- lowest record index"
-  pub tick-missed : {i : ℕ} → first-late b ≡ at i → tick-of b ≡ with-outcome b (Missed i)
-  tick-missed late = goes ∙ ap (λ found. turned b found (first-left b)) late
-
-  module _ (on-time : first-late b ≡ nowhere) where
-    on : tick-of b ≡ turned b nowhere (first-left b)
-    on = goes ∙ ap (λ found. turned b found (first-left b)) on-time
-
-    pub tick-met : first-left b ≡ nowhere → tick-of b ≡ with-outcome b AllMet
-    tick-met done = on ∙ ap (turned b nowhere) done
-
-    -- "Otherwise one unit goes to .."
-    pub tick-moves : {k : ℕ} → first-left b ≡ at k → tick-of b ≡ moved-on b (less-one (b .left) (next-in b))
-    tick-moves undone = on ∙ ap (turned b nowhere) undone
-
-    module _ {k : ℕ} (undone : first-left b ≡ at k) where
-      pub tick-unit : {n : ℕ} → next-in b ≡ at n → tick-of b ≡ moved-on b (less-one (b .left) (at n))
-      tick-unit next = tick-moves undone ∙ ap (λ found. moved-on b (less-one (b .left) found)) next
-
-      -- "with none, the tick is idle"
-      pub tick-idle : next-in b ≡ nowhere → tick-of b ≡ moved-on b (b .left)
-      tick-idle none = tick-moves undone ∙ ap (λ found. moved-on b (less-one (b .left) found)) none
 
 -- ---- n ticks on
 

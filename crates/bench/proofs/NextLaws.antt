@@ -5,11 +5,10 @@ use mathlib.Core.Path.{_≡_, sym, _∙_, ap}
 use Prim.Native.Nat.{ℕ, suc, _+_, _≤_, _<_}
 use native.Mathlib.Numerals.{add-one}
 use native.Mathlib.Omega.{arith}
-use lib.Dec.{ltb}
 use Rattle.laws.specs.Search.{at, nowhere, place-or}
 use Rattle.laws.proofs.PlaceLaws.{place-at, place-none}
 use Rattle.model.specs.Jobs.{Jobs}
-use Rattle.model.specs.Machine.{first-by, sooner, ready, pick}
+use Rattle.model.specs.Machine.{sooner, ready, pick}
 use Rattle.model.proofs.PickLaws.{pick-start, pick-skips, pick-first, pick-wins, pick-keeps, pick-below}
 use Rattle.bench.specs.Rule.{slots, next-of}
 use Rattle.bench.specs.Scan.{Tried}
@@ -36,20 +35,15 @@ module _ {jobs : Jobs} {t i best : ℕ} (tried : Tried jobs t i best) where
           none : pick passes (sooner jobs) i ≡ nowhere
           none = place-none _ slots best (λ j found. omega (arith, pick-below _ _ i j found)) (tried .best-is) over
 
-      module _ (rival : best < slots) {before : Bool}
-          (told : before ≡ first-by (jobs .due i) (jobs .due best)
-          (first-by (jobs .task i) (jobs .task best) (ltb (jobs .arrive i) (jobs .arrive best))))
-        where
-          found : pick passes (sooner jobs) i ≡ at best
-          found = place-at _ slots best (tried .best-is) rival
+      module _ (rival : best < slots) {before : Bool} (told : before ≡ sooner jobs i best) where
+        found : pick passes (sooner jobs) i ≡ at best
+        found = place-at _ slots best (tried .best-is) rival
 
-          pub tried-wins : before ≡ true → Tried jobs t (i + 1) i
-          unfolding sooner
-          tried-wins e = longer more (ap (place-or slots) (sym (pick-wins _ _ i best is-ready found (sym told ∙ e))))
+        pub tried-wins : before ≡ true → Tried jobs t (i + 1) i
+        tried-wins e = longer more (ap (place-or slots) (sym (pick-wins _ _ i best is-ready found (sym told ∙ e))))
 
-          pub tried-keeps : before ≡ false → Tried jobs t (i + 1) best
-          unfolding sooner
-          tried-keeps e = longer more (ap (place-or slots) (sym (pick-keeps _ _ i best is-ready found (sym told ∙ e))))
+        pub tried-keeps : before ≡ false → Tried jobs t (i + 1) best
+        tried-keeps e = longer more (ap (place-or slots) (sym (pick-keeps _ _ i best is-ready found (sym told ∙ e))))
 
   pub tried-end : slots ≤ i → jobs .count ≡ slots → best ≡ place-or slots (next-of jobs t)
   tried-end over count = tried .best-is ∙ ap (λ n. place-or slots (pick passes (sooner jobs) n)) all

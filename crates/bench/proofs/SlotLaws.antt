@@ -13,38 +13,37 @@ use lib.Seq.{getD-set-same, getD-set-other}
 use borrow.Author.Tests.{leb-true, ltb-true, ltb-false, le-leb, lt-ltb, eq-eqb, ne-eqb}
 use Rattle.laws.specs.Search.{Found, at, nowhere}
 use Rattle.laws.proofs.Cases.{lt-or-le}
+use Rattle.laws.proofs.Every.{and-true-left, and-true-right}
 use Rattle.laws.proofs.SearchLaws.{Right, least-right}
 use Rattle.model.specs.Machine.{sooner, give}
 use Rattle.model.specs.Tick.{One-unit}
 use Rattle.model.proofs.OrderLaws.{sooner-strict}
 use Rattle.model.proofs.MachineLaws.{one-unit}
 use Rattle.bench.specs.declared.state.Bench.{Bench}
-use Rattle.bench.specs.Rule.{slots, jobs-in, first-late, first-left, next-in, less-one}
+use Rattle.bench.specs.Rule.{slots, has-left, is-late, jobs-in, first-late, first-left, next-in, less-one}
 use Rattle.bench.specs.Ticked.{left-in, Late-in, Misses, None-late, Some-left}
 
 module _ (b : Bench) where
   -- ---- the first late slot
 
-  late-test : ℕ → Bool
-  late-test k = ltb 0 (left-in b k) && leb (getD (b .due) k 0) (b .tick)
+  abbrev late-test : ℕ → Bool
+  late-test = is-late (b .left) (b .due) (b .tick)
 
   late-is : (k : ℕ) → k < slots → late-test k ≡ true → Late-in b k
-  unfolding late-test
-  late-is k inside passes = which (ltb 0 (left-in b k)) (leb (getD (b .due) k 0) (b .tick)) refl refl passes
-    where
-      which : (x y : Bool) → ltb 0 (left-in b k) ≡ x → leb (getD (b .due) k 0) (b .tick) ≡ y → (x && y) ≡ true
-          → Late-in b k
-      which true true some past passes =
-          record { inside = inside; undone = ltb-true _ _ some; over = leb-true _ _ past }
-      which true false some past passes = absurd (false≢true passes)
-      which false y some past passes = absurd (false≢true passes)
+  late-is k inside passes =
+      let undone = has-left (b .left) k in
+      let over = leb (getD (b .due) k 0) (b .tick) in
+      record {
+        inside = inside;
+        undone = ltb-true _ _ (and-true-left undone over passes);
+        over = leb-true _ _ (and-true-right undone over passes);
+      }
 
   not-late : (k : ℕ) → late-test k ≡ false → Late-in b k → ⊥
-  unfolding late-test
   not-late k fails late = true≢false (sym (rw (lt-ltb _ _ (late .undone), le-leb _ _ (late .over))) ∙ fails)
 
   late-right : Right late-test slots 0 (first-late b)
-  unfolding late-test first-late
+  unfolding first-late
   late-right = least-right late-test slots 0
 
   pub first-late-at : (i : ℕ) → first-late b ≡ at i → Misses b i
@@ -61,21 +60,19 @@ module _ (b : Bench) where
 
   -- ---- the first with work left
 
-  left-test : ℕ → Bool
-  left-test k = ltb 0 (left-in b k)
+  abbrev left-test : ℕ → Bool
+  left-test = has-left (b .left)
 
   left-right : Right left-test slots 0 (first-left b)
-  unfolding left-test first-left
+  unfolding first-left
   left-right = least-right left-test slots 0
 
   pub first-left-at : (k : ℕ) → first-left b ≡ at k → Some-left b
-  unfolding left-test
   first-left-at k found =
       let least = subst (Right left-test slots 0) found left-right in
       record { slot = k; inside = least .high; undone = ltb-true _ _ (least .passes) }
 
   pub first-left-none : first-left b ≡ nowhere → (k : ℕ) → k < slots → left-in b k ≡ 0
-  unfolding left-test
   first-left-none found k inside =
       omega (
         arith,

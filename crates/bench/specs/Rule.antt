@@ -9,13 +9,14 @@ use Rattle.laws.specs.Search.{Found, at, nowhere, least-from}
 use Rattle.model.specs.Jobs.{Jobs}
 use Rattle.model.specs.Machine.{sooner, chosen}
 use Rattle.model.specs.Replay.{last-tick}
+use Rattle.requests.specs.Reader.{most-requests}
 use Rattle.bench.specs.declared.state.Bench.{Bench}
 use Rattle.bench.specs.declared.state.Outcome.{Outcome}
 use Rattle.bench.specs.declared.state.Outcome.the-variants.{Running, Missed, AllMet}
 
 -- "The bench keeps 128 amounts left"
 abbrev pub slots : ℕ
-slots = 128
+slots = most-requests
 
 -- the slots as jobs, with what each has left
 abbrev pub slot-jobs : (left due arrive task : List ℕ) → Jobs

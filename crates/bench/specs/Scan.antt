@@ -1,22 +1,19 @@
 -- The scan for the next request: the order of two slots, how far it has come, and what a unit may go to.
 -- Assumes nothing.
 use mathlib.Core.Path.{_≡_}
-use mathlib.Core.List.{List}
+use mathlib.Core.List.{List, []}
 use Prim.Native.Nat.{ℕ, _≤_, _<_}
-use lib.Dec.{ltb}
 use lib.ListN.{getD}
 use Rattle.laws.specs.Search.{place-or}
 use Rattle.model.specs.Jobs.{Jobs}
 use Rattle.model.specs.Replay.{last-tick}
-use Rattle.model.specs.Machine.{Order, first-by, sooner, ready, pick}
+use Rattle.model.specs.Machine.{Order, sooner, ready, pick}
 use Rattle.bench.specs.declared.state.Bench.{Bench}
-use Rattle.bench.specs.Rule.{slots}
+use Rattle.bench.specs.Rule.{slots, slot-jobs}
 
--- "the earliest deadline, ties by lower task, then earlier arrival", of two slots
+-- the order of two slots, which what they have left does not touch
 abbrev pub goes-before : (due arrive task : List ℕ) → Order
-goes-before due arrive task i j =
-    first-by (getD due i 0) (getD due j 0)
-    (first-by (getD task i 0) (getD task j 0) (ltb (getD arrive i 0) (getD arrive j 0)))
+goes-before due arrive task = sooner (slot-jobs [] due arrive task)
 
 -- the slots below i were tried at tick t, and the first of them in the order is `best`, or `slots` for none
 pub record Tried (jobs : Jobs) (t i best : ℕ) : Type 0 where

@@ -1,7 +1,7 @@
 // The bench's state: document 01, "The replay bench".
 
 // "The bench keeps 128 amounts left"
-pub const SLOTS: usize = 128;
+pub const SLOTS: usize = requests::reader::MOST;
 
 // "All runs end by tick 131,070."
 pub const LAST_TICK: u32 = 131070;

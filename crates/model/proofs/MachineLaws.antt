@@ -12,6 +12,7 @@ use borrow.Author.Tests.{leb-true, ltb-true, le-leb, lt-ltb, eq-eqb, ne-eqb}
 use Rattle.laws.specs.Sums.{only}
 use Rattle.laws.specs.Search.{Found, at, nowhere}
 use Rattle.laws.proofs.Cases.{lt-or-le}
+use Rattle.laws.proofs.Every.{and-true-left, and-true-right}
 use Rattle.model.specs.Jobs.{Jobs}
 use Rattle.model.specs.Machine.{Order, ready, chosen, give, left-at}
 use Rattle.model.specs.Tick.{Ready, Gives, One-unit, idle, gives}
@@ -22,13 +23,14 @@ use Rattle.model.proofs.PickRight.{Picked, pick-right}
 
 module _ (jobs : Jobs) (t : ℕ) (left : ℕ → ℕ) where
   pub ready-is : (k : ℕ) → k < jobs .count → ready jobs t left k ≡ true → Ready jobs t left k
-  ready-is k inside passes = which (leb (jobs .arrive k) t) (ltb 0 (left k)) refl refl passes
-    where
-      which : (x y : Bool) → leb (jobs .arrive k) t ≡ x → ltb 0 (left k) ≡ y → (x && y) ≡ true → Ready jobs t left k
-      which true true here more passes =
-          record { inside = inside; arrived = leb-true _ _ here; undone = ltb-true _ _ more }
-      which true false here more passes = absurd (false≢true passes)
-      which false y here more passes = absurd (false≢true passes)
+  ready-is k inside passes =
+      let arrived = leb (jobs .arrive k) t in
+      let undone = ltb 0 (left k) in
+      record {
+        inside = inside;
+        arrived = leb-true _ _ (and-true-left arrived undone passes);
+        undone = ltb-true _ _ (and-true-right arrived undone passes);
+      }
 
   pub is-ready : (k : ℕ) → Ready jobs t left k → ready jobs t left k ≡ true
   is-ready k r = rw (le-leb _ _ (r .arrived), lt-ltb _ _ (r .undone))

@@ -17,10 +17,10 @@ pub record Requests : Type 0 where
   pub count : ℕ
   pub request : ℕ → Request
 
--- the table has such a task, and the task such a frame
-pub record Known (table : Table) (x : Request) : Type 0 where
-  pub task : x .task < table .tasks
-  pub frame : x .frame < table .task (x .task) .count
+-- the table has a task k, and the task a frame i
+pub record Has-frame (table : Table) (k i : ℕ) : Type 0 where
+  pub task : k < table .tasks
+  pub frame : i < table .task k .count
 
 -- request j is the next of its task after request i
 pub record Next (list : Requests) (i j : ℕ) : Type 0 where
@@ -36,7 +36,7 @@ pub record Follows (table : Table) (x y : Request) : Type 0 where
 -- "A legal request list may start each task at any frame": nothing is asked of a task's first request but that it is
 -- known
 pub record Legal (table : Table) (list : Requests) : Type 0 where
-  pub known : (i : ℕ) → i < list .count → Known table (list .request i)
+  pub known : (i : ℕ) → i < list .count → Has-frame table (list .request i .task) (list .request i .frame)
   pub follows : (i j : ℕ) → j < list .count → Next list i j → Follows table (list .request i) (list .request j)
 
 -- ---- the bench's rules

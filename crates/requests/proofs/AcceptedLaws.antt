@@ -16,7 +16,6 @@ use Rattle.requests.specs.Rules.{Placed}
 use Rattle.requests.specs.Reader.{most-requests, check-of}
 use Rattle.requests.specs.Accepted.{Accepted, In-rule, Listed}
 use Rattle.requests.proofs.LengthLaws.{right-few}
-use Rattle.requests.proofs.PlacedLaws.{known-placed}
 use Rattle.requests.proofs.Exact.{check-good, check-count}
 
 -- ---- the rules of the whole list
@@ -78,7 +77,7 @@ entry-room s j within = omega arith
 pub accepted-placed : {s list : List ℕ} → Accepted (table-of s) list → (j : ℕ) → j < records list →
     Placed s (entry-of list j)
 accepted-placed accepted j within =
-    let place = accepted .good j within .in-place in known-placed (place .known) (place .near)
+    let place = accepted .good j within .in-place in record { known = place .known; near = place .near }
 
 pub listed : (table : Table) → table .tasks ≤ 16 → (s : List ℕ) (n : ℕ) → check-of table s ≡ checked.Legal n →
     Listed table s n

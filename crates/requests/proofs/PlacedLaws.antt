@@ -11,14 +11,13 @@ use native.Mathlib.Omega.{arith}
 use borrow.Author.Tests.{le-leb, lt-leb}
 use Rattle.model.specs.Task.{Task}
 use Rattle.model.specs.Demand.{frame}
-use Rattle.model.specs.Request.{Known, last-arrival}
+use Rattle.model.specs.Request.{Has-frame, last-arrival}
 use Rattle.table.specs.declared.plan.Plan.{Plan}
-use Rattle.table.specs.Ready.{Ready, Has-frame, Frames}
+use Rattle.table.specs.Ready.{Ready, Frames}
 use Rattle.table.specs.TableOf.{table-of}
 use Rattle.table.proofs.ReadyLaws.{ready-tasks, ready-few}
 use Rattle.requests.specs.declared.entry.Entry.{Entry}
 use Rattle.requests.specs.declared.rules.SoFar.{SoFar}
-use Rattle.requests.specs.Entry.{request-in}
 use Rattle.requests.specs.Rules.{unknown, out-of-order, misplaced, out-of-turn, fault-of, Placed}
 use Rattle.requests.proofs.TestLaws.{catches-place, first-10, first-11, first-none, none-10}
 
@@ -50,22 +49,18 @@ module _ {s : List ℕ} {plan : Plan} (ready : Ready s plan) (x : Entry) where
   unknown-frame there counted =
       sym (rw (lt-leb (table-of s .tasks) (x .task) (omega (arith, ready-tasks ready)), counted .is))
 
-  module _ (has : Has-frame s (x .task) (x .frame)) where
+  module _ (has : Has-frame (table-of s) (x .task) (x .frame)) where
     pub known-low : x .task < 16
     known-low = omega (arith, has .task, ready-few ready)
 
     pub known-task : x .task < plan .tasks
     known-task = omega (arith, has .task, ready-tasks ready)
 
-pub known-placed : {s : List ℕ} {x : Entry} → Known (table-of s) (request-in x) → x .arrival ≤ last-arrival →
-    Placed s x
-known-placed known near = record { known = record { task = known .task; frame = known .frame }; near = near }
-
 -- a record that rule 10 passes, and so one with no fault, may be told to `after`
 module _ {s : List ℕ} {x : Entry} (b : SoFar) where
   passed-placed : misplaced (table-of s) b x ≡ false → Placed s x
   passed-placed fine =
-      let kept = catches-place (table-of s) b x .passed fine in known-placed (kept .known) (kept .near)
+      let kept = catches-place (table-of s) b x .passed fine in record { known = kept .known; near = kept .near }
 
   pub fine-placed : {fault : ℕ} → fault ≡ fault-of (table-of s) b x → fault ≡ 0 → Placed s x
   fine-placed is none = passed-placed (none-10 (misplaced (table-of s) b x) (out-of-turn b x) (sym is ∙ none))

@@ -7,10 +7,9 @@ use lib.ListN.{getD}
 use native.Mathlib.Omega.{arith}
 use Rattle.laws.proofs.Tests.{Catches, catches-as, catches-lt, catches-le, catches-ne, catches-or, catches-when, catches-past}
 use Rattle.model.specs.Task.{Table}
-use Rattle.model.specs.Request.{Known, last-arrival}
+use Rattle.model.specs.Request.{Has-frame, last-arrival}
 use Rattle.requests.specs.declared.entry.Entry.{Entry}
 use Rattle.requests.specs.declared.rules.SoFar.{SoFar}
-use Rattle.requests.specs.Entry.{request-in}
 use Rattle.requests.specs.Rules.{misplaced, out-of-turn, first-broken}
 
 -- ---- rule 10
@@ -21,7 +20,7 @@ pub record In-order (b : SoFar) (x : Entry) : Type 0 where
 
 pub record Place-kept (table : Table) (b : SoFar) (x : Entry) : Type 0 where
   pub pad : x .pad ≡ 0
-  pub known : Known table (request-in x)
+  pub known : Has-frame table (x .task) (x .frame)
   pub near : x .arrival ≤ last-arrival
   pub in-order : In-order b x
 

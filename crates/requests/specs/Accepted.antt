@@ -5,7 +5,7 @@ use mathlib.Core.Path.{_≡_}
 use mathlib.Core.List.{List}
 use lib.ListN.{length}
 use Rattle.model.specs.Task.{Table}
-use Rattle.model.specs.Request.{Known, Next, Follows, Legal, Before, Sorted, last-arrival}
+use Rattle.model.specs.Request.{Has-frame, Next, Follows, Legal, Before, Sorted, last-arrival}
 use Rattle.table.specs.Bytes.{size, records}
 use Rattle.requests.specs.Entry.{entry-of, list-of}
 use Rattle.requests.specs.Reader.{most-requests}
@@ -18,7 +18,7 @@ pub record Length-right (n : ℕ) : Type 0 where
 -- rule 10: "two zero bytes", a known task and frame, "arrivals 0 to 65,535", the order
 pub record In-place (table : Table) (s : List ℕ) (j : ℕ) : Type 0 where
   pub pad : entry-of s j .pad ≡ 0
-  pub known : Known table (list-of s .request j)
+  pub known : Has-frame table (entry-of s j .task) (entry-of s j .frame)
   pub near : list-of s .request j .arrival ≤ last-arrival
   pub ordered : (i : ℕ) → i + 1 ≡ j → Before (list-of s .request i) (list-of s .request j)
 

@@ -7,8 +7,8 @@ use lib.Dec.{ltb, leb, eqb}
 use lib.ListN.{getD, set, replicate}
 use Rattle.model.specs.Task.{Table}
 use Rattle.model.specs.Demand.{frame}
-use Rattle.model.specs.Request.{last-arrival}
-use Rattle.table.specs.Ready.{Has-frame}
+use Rattle.model.specs.Request.{Has-frame, last-arrival}
+use Rattle.table.specs.TableOf.{table-of}
 use Rattle.requests.specs.declared.entry.Entry.{Entry}
 use Rattle.requests.specs.declared.rules.SoFar.{SoFar}
 
@@ -62,5 +62,5 @@ after-of table b x =
 
 -- what is asked of a record before the next is looked at: it is known, and no later than the last arrival
 pub record Placed (s : List ℕ) (x : Entry) : Type 0 where
-  pub known : Has-frame s (x .task) (x .frame)
+  pub known : Has-frame (table-of s) (x .task) (x .frame)
   pub near : x .arrival ≤ last-arrival

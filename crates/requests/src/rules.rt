@@ -3,7 +3,8 @@ use crate::entry::Entry;
 use table::plan::Plan;
 ghost use mathlib.Core.Path.{_≡_};
 ghost use Prim.Native.Nat.{_<_};
-ghost use Rattle.table.specs.Ready.{Ready, Has-frame};
+ghost use Rattle.model.specs.Request.{Has-frame};
+ghost use Rattle.table.specs.Ready.{Ready};
 ghost use Rattle.table.specs.TableOf.{table-of};
 ghost use Rattle.requests.specs.Rules.{unknown, out-of-order, misplaced, out-of-turn, fault-of};
 ghost use Rattle.requests.specs.Rules.{next-of, soonest, after-of, Placed};
@@ -69,7 +70,7 @@ pub fn fault(s: &[u8], plan: Plan, b: SoFar, x: Entry) -> u8
 
 // One more than the frame that comes after x in its task.
 fn next_after(s: &[u8], plan: Plan, x: Entry) -> u8
-    requires { ⌜ Ready (now s) plan × Has-frame (now s) (x .task) (x .frame) ⌝ }
+    requires { ⌜ Ready (now s) plan × Has-frame (table-of (now s)) (x .task) (x .frame) ⌝ }
     ensures { λ r. ⌜ r ≡ next-of (table-of (now (s .entry))) x ⌝ }
 {
     let count = table::frame::count_frames(s, plan, x.task as usize);

@@ -7,11 +7,12 @@ use native.Mathlib.Omega.{arith}
 use lib.ListN.{length, getD}
 use mir.Syntax.{w8}
 use mir.Val.{Fits}
+use Rattle.model.specs.Request.{Has-frame}
 use Rattle.model.specs.Task.{ProperTable}
 use Rattle.table.specs.Bytes.{size, record-of}
 use Rattle.table.specs.TableOf.{table-of, plan-of}
 use Rattle.table.specs.Reader.{most-records, reading-of}
-use Rattle.table.specs.Ready.{Ready, Has-frame, Frame-is, Frames}
+use Rattle.table.specs.Ready.{Ready, Frame-is, Frames}
 use Rattle.table.specs.declared.plan.Plan.{Plan}
 use Rattle.table.specs.declared.record.Record.{Record}
 use Rattle.table.specs.declared.reader.Shape.{Shape}
@@ -67,7 +68,7 @@ module _ {s : List ℕ} {plan : Plan} (ready : Ready s plan) where
           few = omega (arith, ready-stands .few);
         }
 
-  module _ {k i : ℕ} (has : Has-frame s k i) where
+  module _ {k i : ℕ} (has : Has-frame (table-of s) k i) where
     known : k < plan .tasks
     known = omega (arith, ready-tasks, has .task)
 

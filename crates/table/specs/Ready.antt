@@ -2,7 +2,7 @@
 -- Assumes nothing.
 use mathlib.Core.Path.{_≡_}
 use mathlib.Core.List.{List}
-use Prim.Native.Nat.{ℕ, _≤_, _<_}
+use Prim.Native.Nat.{ℕ, _≤_}
 use Rattle.model.specs.Task.{Task}
 use Rattle.table.specs.Bytes.{records}
 use Rattle.table.specs.TableOf.{table-of, plan-of}
@@ -14,11 +14,6 @@ use Rattle.table.specs.declared.record.Record.{Record}
 pub record Ready (s : List ℕ) (plan : Plan) : Type 0 where
   pub good : WellFormed s
   pub plan-is : plan ≡ plan-of s (records s) (table-of s .tasks)
-
--- the table has a task k, and the task a frame i
-pub record Has-frame (s : List ℕ) (k i : ℕ) : Type 0 where
-  pub task : k < table-of s .tasks
-  pub frame : i < table-of s .task k .count
 
 -- the number of frames, from which the next frame's number is found
 pub record Frames (task : Task) (r : ℕ) : Type 0 where

@@ -2,8 +2,9 @@
 use crate::plan::Plan;
 use crate::record::Record;
 ghost use Prim.Native.Nat.{_<_};
+ghost use Rattle.model.specs.Request.{Has-frame};
 ghost use Rattle.table.specs.TableOf.{table-of};
-ghost use Rattle.table.specs.Ready.{Ready, Has-frame, Frame-is, Frames};
+ghost use Rattle.table.specs.Ready.{Ready, Frame-is, Frames};
 
 // The number of frames of task k.
 pub fn count_frames(s: &[u8], plan: Plan, k: usize) -> usize
@@ -16,7 +17,7 @@ pub fn count_frames(s: &[u8], plan: Plan, k: usize) -> usize
 
 // Frame i of task k.
 pub fn frame_at(s: &[u8], plan: Plan, k: usize, i: usize) -> Record
-    requires { ⌜ Ready (now s) plan × Has-frame (now s) k i ⌝ }
+    requires { ⌜ Ready (now s) plan × Has-frame (table-of (now s)) k i ⌝ }
     ensures { λ r. ⌜ Frame-is (table-of (now (s .entry)) .task k) i r ⌝ }
 {
     let first = plan.first;

@@ -2,6 +2,7 @@
 -- Assumes nothing.
 use borrow.Author.Needs.{needs}
 use borrow.Author.Tests.{not-true, not-false}
+use Rattle.model.specs.Machine.{sooner}
 use Rattle.bench.proofs.NextLaws.{tried-skips, tried-first, tried-wins, tried-keeps}
 use Rattle.bench.proofs.next.better.Statement.{statement}
 use Rattle.bench.proofs.next.better.Tie as tie
@@ -20,6 +21,7 @@ returns-2 c =
     tried-first (start .pre .1) (search needs) (not-false _ (ready .if1 .left)) (search needs)
 
 returns-3 : tie.Need-returns-3
+unfolding sooner
 returns-3 c =
     let ready = c .before .before .before in
     let start = ready .before .before .before in
@@ -32,6 +34,7 @@ returns-3 c =
     (c .if3 .taken)
 
 returns-4 : tie.Need-returns-4
+unfolding sooner
 returns-4 c =
     let ready = c .before .before .before in
     let start = ready .before .before .before in

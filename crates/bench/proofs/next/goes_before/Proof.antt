@@ -2,10 +2,12 @@
 -- Assumes nothing.
 use mathlib.Core.Path.{refl}
 use borrow.Author.Needs.{needs}
+use Rattle.model.specs.Machine.{sooner}
 use Rattle.bench.proofs.next.goes_before.Statement.{statement}
 use Rattle.bench.proofs.next.goes_before.Tie as tie
 
 returns : tie.Need-returns
+unfolding sooner
 returns c = refl
 
 pub goes-before-spec : {M : Type 1} → statement M

@@ -1,10 +1,10 @@
 -- What the replay of a loaded list answers is what document 01 says of the machine, and every run ends by tick 131,070.
 -- Assumes nothing.
 use mathlib.Core.List.{List}
-use mathlib.Core.Path.{_≡_, refl, ap, ap₂, subst, sym, _∙_}
-use Prim.Native.Nat.{ℕ, suc, _≤_, _<_}
+use mathlib.Core.Path.{_≡_, refl, ap₂, subst, sym, _∙_}
+use Prim.Native.Nat.{ℕ, suc, _<_}
 use native.Mathlib.Omega.{arith}
-use native.Mathlib.Nat.{le-refl, le-step}
+use native.Mathlib.Nat.{le-refl}
 use Rattle.model.specs.Task.{Table, ProperTable}
 use Rattle.model.specs.Request.{last-arrival}
 use Rattle.model.specs.Jobs.{Jobs, jobs-of}
@@ -17,11 +17,9 @@ use Rattle.requests.proofs.AcceptedLaws.{accepted-legal, accepted-few, accepted
 use Rattle.bench.specs.declared.state.Bench.{Bench}
 use Rattle.bench.specs.declared.state.Outcome.{Outcome}
 use Rattle.bench.specs.declared.state.Outcome.the-variants.{Running, Missed, AllMet}
-use Rattle.bench.specs.Rule.{run-of}
 use Rattle.bench.specs.Loaded.{loaded, run-whole, answer-of, replay-of}
 use Rattle.bench.specs.Meaning.{Replayable, Ended}
-use Rattle.bench.proofs.TickLaws.{missed-stopped, met-stopped, run-longer}
-use Rattle.bench.proofs.OneUnit.{tick-stands}
+use Rattle.bench.proofs.TickLaws.{missed-stopped, met-stopped}
 use Rattle.bench.proofs.MachineRun.{Behind, Stage, runs, missed, met, run-stage}
 
 -- "arrivals 0 to 65,535", and D at most as much: so every list that is accepted can be replayed
@@ -99,13 +97,3 @@ replay-empty jobs empty = sym (replay-only jobs good (all-met 0) nothing)
           worked = λ u less. absurd (omega arith);
           on-time = λ u k late. none k (late .inside);
         }
-
--- ---- an answer can be had from the first state that has stopped, without the ticks that are left
-
-pub replay-early : (jobs : Jobs) (n : ℕ) → n ≤ last-tick → (run-of n (loaded jobs) .outcome ≡ Running → ⊥)
-    → replay-of jobs ≡ answer-of (run-of n (loaded jobs) .outcome) (run-of n (loaded jobs) .tick)
-unfolding replay-of run-whole
-replay-early jobs n soon stopped =
-    ap (λ b. answer-of (b .outcome) (b .tick))
-    (run-longer n (suc last-tick) (loaded jobs) (le-step soon)
-    (tick-stands (run-of n (loaded jobs)) (λ going. stopped (going .running))))

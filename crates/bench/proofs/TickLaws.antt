@@ -2,13 +2,11 @@
 -- Assumes nothing.
 use mathlib.Core.Bool.{cond}
 use mathlib.Core.Path.{_≡_, refl, _∙_, ap}
-use mathlib.Core.Logic.{inl, inr}
-use Prim.Native.Nat.{ℕ, zero, suc, _≤_, _<_}
+use Prim.Native.Nat.{ℕ, zero, suc, _<_}
 use native.Mathlib.Omega.{arith}
 use lib.Dec.{ltb}
 use borrow.Author.Tests.{lt-ltb, le-ltb}
 use Rattle.laws.specs.Search.{at, nowhere}
-use Rattle.laws.proofs.Cases.{lt-or-le}
 use Rattle.model.specs.Replay.{last-tick}
 use Rattle.bench.specs.declared.state.Bench.{Bench}
 use Rattle.bench.specs.declared.state.Outcome.{Outcome}
@@ -100,18 +98,3 @@ pub run-kept : (n : ℕ) (b : Bench) → tick-of b ≡ b → run-of n b ≡ b
 unfolding run-of
 run-kept zero b kept = refl
 run-kept (suc n) b kept = ap (run-of n) kept ∙ run-kept n b kept
-
--- a bench that stands still after n calls does so after more
-pub run-longer : (n m : ℕ) (b : Bench) → n ≤ m → tick-of (run-of n b) ≡ run-of n b → run-of m b ≡ run-of n b
-run-longer n zero b longer kept = ap (λ k. run-of k b) (none longer)
-  where
-    none : n ≤ 0 → 0 ≡ n
-    none longer = omega arith
-run-longer n (suc m) b longer kept =
-    elim (lt-or-le m n) [
-      | inl less ↦ ap (λ k. run-of k b) (same less)
-      | inr more ↦ run-more m b ∙ ap tick-of (run-longer n m b more kept) ∙ kept
-    ]
-  where
-    same : m < n → suc m ≡ n
-    same less = omega arith

@@ -2,21 +2,20 @@
 -- Assumes nothing.
 use mathlib.Core.Path.{_≡_, refl, sym, _∙_}
 use mathlib.Core.Logic.{inl, inr}
-use mathlib.Core.Bool.{Bool, true, false, _&&_, false≢true}
+use mathlib.Core.Bool.{true, false≢true}
 use Prim.Native.Nat.{ℕ, zero, suc, _+_, _≤_, _<_}
 use native.Mathlib.Omega.{arith}
 use native.Mathlib.Nat.{le-refl, le-trans}
 use native.Mathlib.Decide.{ℕ-discrete}
-use lib.Dec.{leb, ltb, eqb}
+use lib.Dec.{leb, ltb}
 use borrow.Author.Tests.{leb-true, ltb-true, le-leb, lt-ltb, eq-eqb, ne-eqb}
-use Rattle.laws.specs.Sums.{only}
 use Rattle.laws.specs.Search.{Found, at, nowhere}
 use Rattle.laws.proofs.Cases.{lt-or-le}
 use Rattle.laws.proofs.Every.{and-true-left, and-true-right}
 use Rattle.model.specs.Jobs.{Jobs}
-use Rattle.model.specs.Machine.{Order, ready, chosen, give, left-at}
+use Rattle.model.specs.Machine.{Order, sooner, ready, chosen, give, left-at}
 use Rattle.model.specs.Tick.{Ready, Gives, One-unit, idle, gives}
-use Rattle.model.proofs.OrderLaws.{Strict}
+use Rattle.model.proofs.OrderLaws.{Strict, not-sooner-due}
 use Rattle.model.proofs.PickRight.{Picked, pick-right}
 
 -- ---- any amounts left
@@ -43,17 +42,9 @@ module _ (left : ℕ → ℕ) where
   give-other : (b k : ℕ) → (k ≡ b → ⊥) → give (at b) left k ≡ left k
   give-other b k differ = rw (ne-eqb b k (λ e. differ (sym e))) (omega arith)
 
-  gate-most : (x : Bool) → only x 1 ≤ 1
-  gate-most true = le-refl 1
-  gate-most false = omega arith
-
   pub give-falls : (r : Found) (k : ℕ) → give r left k ≤ left k
   give-falls (at b) k = omega arith
   give-falls nowhere k = omega arith
-
-  give-one : (r : Found) (k : ℕ) → left k ≤ give r left k + 1
-  give-one (at b) k = omega (arith, gate-most (eqb b k))
-  give-one nowhere k = omega arith
 
 module _ (jobs : Jobs) (before : Order) (t : ℕ) (left : ℕ → ℕ) where
   give-unit : (r : Found) → Picked (ready jobs t left) before (jobs .count) r
@@ -105,6 +96,11 @@ gives-one {i = i} {j = j} one other =
     elim (ℕ-discrete i j)
     [ yes same ↦ same | no differ ↦ absurd (omega (arith, one .one-less, other .others i differ)) ]
 
+-- "the earliest deadline": by the document's order, what gets the unit is due no later than any that waits
+pub gives-earliest : (jobs : Jobs) {t : ℕ} {left next : ℕ → ℕ} {k : ℕ} → Gives jobs (sooner jobs) t left next k
+    → (j : ℕ) → Ready jobs t left j → jobs .due k ≤ jobs .due j
+gives-earliest jobs {k = k} given j waits = not-sooner-due jobs j k (given .none-before j waits)
+
 -- ---- the machine from the jobs' amounts on
 
 module _ (jobs : Jobs) (before : Order) where
@@ -123,15 +119,10 @@ module _ (jobs : Jobs) (before : Order) where
   unfolding left-at
   left-unit strict t = one-unit jobs before t (left-at jobs before t) strict
 
-  pub left-falls : (t k : ℕ) → left-at jobs before (suc t) k ≤ left-at jobs before t k
+  left-falls : (t k : ℕ) → left-at jobs before (suc t) k ≤ left-at jobs before t k
   left-falls t k =
       let left = left-at jobs before t in
       rw (left-step t k) (give-falls left (chosen jobs before t left) k)
-
-  pub left-one : (t k : ℕ) → left-at jobs before t k ≤ left-at jobs before (suc t) k + 1
-  left-one t k =
-      let left = left-at jobs before t in
-      rw (left-step t k) (give-one left (chosen jobs before t left) k)
 
   pub left-mono : (t u k : ℕ) → t ≤ u → left-at jobs before u k ≤ left-at jobs before t k
   left-mono t zero k later = rw (none later) (le-refl _)

@@ -6,9 +6,9 @@ use mathlib.Core.Logic.{_⊎_, inl, inr}
 use mathlib.Core.Bool.{Bool, true, false, true≢false, false≢true}
 use Prim.Native.Nat.{ℕ, _≤_, _<_}
 use native.Mathlib.Omega.{arith}
-use native.Mathlib.Nat.{le-refl, le-trans, lt-trans, lt-of-lt-of-le, lt-of-le-of-lt}
+use native.Mathlib.Nat.{le-refl, lt-trans, lt-of-lt-of-le}
 use lib.Dec.{ltb}
-use borrow.Author.Tests.{ltb-true, ltb-false, lt-ltb, le-ltb, eq-eqb, ne-eqb}
+use borrow.Author.Tests.{ltb-true, lt-ltb, le-ltb, eq-eqb, ne-eqb}
 use Rattle.laws.proofs.Cases.{lt-or-le}
 use Rattle.model.specs.Jobs.{Jobs}
 use Rattle.model.specs.Machine.{Order, first-by, sooner}
@@ -16,11 +16,6 @@ use Rattle.model.specs.Machine.{Order, first-by, sooner}
 pub record Strict (before : Order) : Type 0 where
   pub irreflexive : (i : ℕ) → before i i ≡ false
   pub transitive : (i j k : ℕ) → before i j ≡ true → before j k ≡ true → before i k ≡ true
-
--- as by a key: where i is not before j nor j before k, i is not before k
-pub record Ranked (before : Order) : Type 0 where
-  pub strict : Strict before
-  pub ties : (i j k : ℕ) → before i j ≡ false → before j k ≡ false → before i k ≡ false
 
 -- ---- the smaller first
 
@@ -38,16 +33,16 @@ compare x y =
     ]
 
 module _ (x y : ℕ) (rest : Bool) where
-  pub first-by-less : x < y → first-by x y rest ≡ true
+  first-by-less : x < y → first-by x y rest ≡ true
   first-by-less less = rw (lt-ltb x y less)
 
-  pub first-by-same : x ≡ y → first-by x y rest ≡ rest
+  first-by-same : x ≡ y → first-by x y rest ≡ rest
   first-by-same same = rw (le-ltb x y (omega arith), eq-eqb x y same)
 
-  pub first-by-more : y < x → first-by x y rest ≡ false
+  first-by-more : y < x → first-by x y rest ≡ false
   first-by-more more = rw (le-ltb x y (omega arith), ne-eqb x y (λ same. omega arith))
 
-  pub first-by-true : first-by x y rest ≡ true → (x < y) ⊎ ((x ≡ y) × (rest ≡ true))
+  first-by-true : first-by x y rest ≡ true → (x < y) ⊎ ((x ≡ y) × (rest ≡ true))
   first-by-true passes =
       elim (compare x y) [
         | below less ↦ inl less
@@ -55,21 +50,14 @@ module _ (x y : ℕ) (rest : Bool) where
         | above more ↦ absurd (false≢true (sym (first-by-more more) ∙ passes))
       ]
 
-  pub first-by-false : first-by x y rest ≡ false → (y < x) ⊎ ((x ≡ y) × (rest ≡ false))
-  first-by-false fails =
-      elim (compare x y) [
-        | below less ↦ absurd (true≢false (sym (first-by-less less) ∙ fails))
-        | equal same ↦ inr (same, sym (first-by-same same) ∙ fails)
-        | above more ↦ inl more
-      ]
-
-  pub first-by-most : first-by x y rest ≡ true → x ≤ y
+  first-by-most : first-by x y rest ≡ true → x ≤ y
   first-by-most passes = elim (first-by-true passes) [ inl less ↦ omega arith | inr tie ↦ omega (arith, tie .0) ]
 
-  pub first-by-least : first-by x y rest ≡ false → y ≤ x
-  first-by-least fails = elim (first-by-false fails) [ inl more ↦ omega arith | inr tie ↦ omega (arith, tie .0) ]
+  first-by-least : first-by x y rest ≡ false → y ≤ x
+  first-by-least fails =
+      elim (lt-or-le x y) [ inl less ↦ absurd (true≢false (sym (first-by-less less) ∙ fails)) | inr least ↦ least ]
 
-module _ (key : ℕ → ℕ) {rest : Order} (by-rest : Ranked rest) where
+module _ (key : ℕ → ℕ) {rest : Order} (by-rest : Strict rest) where
   by-key : Order
   by-key i j = first-by (key i) (key j) (rest i j)
 
@@ -77,73 +65,43 @@ module _ (key : ℕ → ℕ) {rest : Order} (by-rest : Ranked rest) where
   unfolding by-key
   first-by-transitive i j k one two =
       elim (first-by-true (key i) (key j) (rest i j) one) [
-        | inl less ↦ first-by-less (key i) (key k) (rest i k) (lt-of-lt-of-le less (first-by-most _ _ (rest j k) two))
+        | inl less ↦ first-by-less (key i) (key k) (rest i k) (lt-of-lt-of-le less (first-by-most (key j) (key k) (rest j k) two))
         | inr tie ↦ elim (first-by-true (key j) (key k) (rest j k) two) [
           | inl less ↦ first-by-less (key i) (key k) (rest i k) (omega (arith, tie .0))
           | inr next ↦ first-by-same (key i) (key k) (rest i k) (tie .0 ∙ next .0)
-              ∙ by-rest .strict .transitive i j k (tie .1) (next .1)
-        ]
-      ]
-
-  first-by-ties : (i j k : ℕ) → by-key i j ≡ false → by-key j k ≡ false → by-key i k ≡ false
-  unfolding by-key
-  first-by-ties i j k one two =
-      elim (first-by-false (key i) (key j) (rest i j) one) [
-        | inl more ↦ first-by-more (key i) (key k) (rest i k) (lt-of-le-of-lt (first-by-least _ _ (rest j k) two) more)
-        | inr tie ↦ elim (first-by-false (key j) (key k) (rest j k) two) [
-          | inl more ↦ first-by-more (key i) (key k) (rest i k) (omega (arith, tie .0))
-          | inr next ↦ first-by-same (key i) (key k) (rest i k) (tie .0 ∙ next .0)
-              ∙ by-rest .ties i j k (tie .1) (next .1)
+              ∙ by-rest .transitive i j k (tie .1) (next .1)
         ]
       ]
 
   -- an order by a key, and where the key is the same by another order
-  pub first-by-ranked : Ranked (λ i j. first-by (key i) (key j) (rest i j))
+  first-by-strict : Strict (λ i j. first-by (key i) (key j) (rest i j))
   unfolding by-key
-  first-by-ranked =
+  first-by-strict =
       record {
-        strict =
-            record {
-              irreflexive = λ i. first-by-same (key i) (key i) (rest i i) refl ∙ by-rest .strict .irreflexive i;
-              transitive = first-by-transitive;
-            };
-        ties = first-by-ties;
+        irreflexive = λ i. first-by-same (key i) (key i) (rest i i) refl ∙ by-rest .irreflexive i;
+        transitive = first-by-transitive;
       }
 
 -- the order by a key alone
-pub key-ranked : (key : ℕ → ℕ) → Ranked (λ i j. ltb (key i) (key j))
-key-ranked key =
+key-strict : (key : ℕ → ℕ) → Strict (λ i j. ltb (key i) (key j))
+key-strict key =
     record {
-      strict =
-          record {
-            irreflexive = λ i. le-ltb (key i) (key i) (le-refl (key i));
-            transitive =
-                λ i j k one two.
-                lt-ltb (key i) (key k) (lt-trans (ltb-true (key i) (key j) one) (ltb-true (key j) (key k) two));
-          };
-      ties =
+      irreflexive = λ i. le-ltb (key i) (key i) (le-refl (key i));
+      transitive =
           λ i j k one two.
-          le-ltb (key i) (key k) (le-trans (ltb-false (key j) (key k) two) (ltb-false (key i) (key j) one));
+          lt-ltb (key i) (key k) (lt-trans (ltb-true (key i) (key j) one) (ltb-true (key j) (key k) two));
     }
 
 -- ---- the order of the document
 
 module _ (jobs : Jobs) where
-  pub sooner-ranked : Ranked (sooner jobs)
-  unfolding sooner
-  sooner-ranked = first-by-ranked (jobs .due) (first-by-ranked (jobs .task) (key-ranked (jobs .arrive)))
-
   pub sooner-strict : Strict (sooner jobs)
-  sooner-strict = sooner-ranked .strict
+  unfolding sooner
+  sooner-strict = first-by-strict (jobs .due) (first-by-strict (jobs .task) (key-strict (jobs .arrive)))
 
-  after-due : ℕ → ℕ → Bool
-  after-due i j = first-by (jobs .task i) (jobs .task j) (ltb (jobs .arrive i) (jobs .arrive j))
-
-  -- "the earliest deadline"
-  pub sooner-due : (i j : ℕ) → sooner jobs i j ≡ true → jobs .due i ≤ jobs .due j
-  unfolding sooner after-due
-  sooner-due i j = first-by-most (jobs .due i) (jobs .due j) (after-due i j)
-
+  -- "the earliest deadline": a job that another does not go before is due no later
   pub not-sooner-due : (i j : ℕ) → sooner jobs i j ≡ false → jobs .due j ≤ jobs .due i
-  unfolding sooner after-due
-  not-sooner-due i j = first-by-least (jobs .due i) (jobs .due j) (after-due i j)
+  unfolding sooner
+  not-sooner-due i j =
+      first-by-least (jobs .due i) (jobs .due j)
+      (first-by (jobs .task i) (jobs .task j) (ltb (jobs .arrive i) (jobs .arrive j)))

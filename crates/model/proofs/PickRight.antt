@@ -2,7 +2,7 @@
 -- Assumes nothing.
 use mathlib.Core.Path.{_≡_, refl, sym, _∙_, subst}
 use mathlib.Core.Logic.{inl, inr}
-use mathlib.Core.Bool.{Bool, true, false, cond, true≢false, false≢true}
+use mathlib.Core.Bool.{Bool, true, false, cond, false≢true}
 use Prim.Native.Nat.{ℕ, zero, suc, _<_}
 use native.Mathlib.Omega.{arith}
 use native.Mathlib.Nat.{le-refl, le-step}
@@ -10,7 +10,7 @@ use Rattle.laws.specs.Search.{Found, at, nowhere}
 use Rattle.laws.proofs.Cases.{lt-or-last}
 use Rattle.model.specs.Machine.{Order, first-of, pick}
 use Rattle.model.proofs.PickLaws.{pick-start, pick-skips, pick-tries}
-use Rattle.model.proofs.OrderLaws.{Strict, Ranked}
+use Rattle.model.proofs.OrderLaws.{Strict}
 
 -- b passes, and none of those below n that pass goes before it
 pub record First (test : ℕ → Bool) (before : Order) (n b : ℕ) : Type 0 where
@@ -27,16 +27,7 @@ abbrev pub Picked : (ℕ → Bool) → Order → ℕ → Found → Type 0
 Picked test before n (at b) = First test before n b
 Picked test before n nowhere = None-below test n
 
--- b goes before every lower number that passes: of equals it is the lowest
-abbrev pub Lowest : (ℕ → Bool) → Order → Found → Type 0
-Lowest test before (at b) = (j : ℕ) → j < b → test j ≡ true → before b j ≡ true
-Lowest test before nowhere = Unit {0}
-
-pub is-true : (x : Bool) → (x ≡ false → ⊥) → x ≡ true
-is-true true never = refl
-is-true false never = absurd (never refl)
-
-pub is-false : (x : Bool) → (x ≡ true → ⊥) → x ≡ false
+is-false : (x : Bool) → (x ≡ true → ⊥) → x ≡ false
 is-false true never = absurd (never refl)
 is-false false never = refl
 
@@ -95,31 +86,3 @@ module _ (test : ℕ → Bool) (before : Order) where
       which true passes so-far =
           rw (pick-tries test before n passes) (picked-try strict n (pick test before n) passes so-far)
       which false fails so-far = rw (pick-skips test before n fails) (picked-skip n (pick test before n) fails so-far)
-
-  -- ---- of equals the lowest
-
-  lowest-try : Ranked before → (n : ℕ) (r : Found) → Picked test before n r → Lowest test before r
-      → Lowest test before (first-of before n r)
-  lowest-try ranked n nowhere none so-low = λ j less too. absurd (false≢true (sym (none j less) ∙ too))
-  lowest-try ranked n (at b) so-far so-low = which (before n b) refl
-    where
-      -- what n did not go before would not go before b, nor n then
-      below : before n b ≡ true → (j : ℕ) → j < n → test j ≡ true → before n j ≡ true
-      below wins j less too =
-          is-true (before n j) λ after.
-          true≢false (sym wins ∙ ranked .ties n j b after (so-far .none-before j less too))
-
-      which : (x : Bool) → before n b ≡ x → Lowest test before (cond x (at n) (at b))
-      which true wins = below wins
-      which false after = so-low
-
-  pub pick-lowest : Ranked before → (n : ℕ) → Lowest test before (pick test before n)
-  pick-lowest ranked zero = rw (pick-start test before) tt
-  pick-lowest ranked (suc n) = which (test n) refl (pick-lowest ranked n)
-    where
-      which : (x : Bool) → test n ≡ x → Lowest test before (pick test before n)
-          → Lowest test before (pick test before (suc n))
-      which true passes so-low =
-          rw (pick-tries test before n passes)
-          (lowest-try ranked n (pick test before n) (pick-right (ranked .strict) n) so-low)
-      which false fails so-low = rw (pick-skips test before n fails) so-low

@@ -1,36 +1,16 @@
--- Choices that are the same: there is one right choice only, it depends on nothing but the numbers it is made from, and
--- numbers that fail change nothing.
+-- Choices that are the same: a choice depends on nothing but the numbers it is made from, and numbers that fail change
+-- nothing.
 -- Assumes nothing.
 use mathlib.Core.Path.{_≡_, refl, sym, _∙_, ap}
 use mathlib.Core.Logic.{inl, inr}
-use mathlib.Core.Bool.{Bool, true, false, false≢true}
+use mathlib.Core.Bool.{Bool, true, false}
 use Prim.Native.Nat.{ℕ, zero, suc, _≤_, _<_}
 use native.Mathlib.Omega.{arith}
 use native.Mathlib.Nat.{le-refl, le-step}
 use Rattle.laws.specs.Search.{Found, at, nowhere}
-use Rattle.laws.proofs.Cases.{lt-or-le, neither-lower}
+use Rattle.laws.proofs.Cases.{lt-or-le}
 use Rattle.model.specs.Machine.{Order, first-of, pick}
 use Rattle.model.proofs.PickLaws.{pick-start, pick-skips, pick-tries, pick-below}
-use Rattle.model.proofs.PickRight.{First, Picked, Lowest}
-
--- ---- one right choice
-
-module _ (test : ℕ → Bool) (before : Order) (n : ℕ) where
-  not-lower : {b c : ℕ} → First test before n b → First test before n c → Lowest test before (at c) → b < c → ⊥
-  not-lower {b} {c} first other lowest less =
-      false≢true (sym (first .none-before c (other .inside) (other .passes)) ∙ lowest b less (first .passes))
-
-  pub picked-one : (r s : Found) → Picked test before n r → Lowest test before r → Picked test before n s
-      → Lowest test before s → r ≡ s
-  picked-one (at b) (at c) first lowest other low =
-      ap at (neither-lower b c (not-lower first other low) (not-lower other first lowest))
-  picked-one (at b) nowhere first lowest none low =
-      absurd (false≢true (sym (none b (first .inside)) ∙ first .passes))
-  picked-one nowhere (at c) none lowest first low =
-      absurd (false≢true (sym (none c (first .inside)) ∙ first .passes))
-  picked-one nowhere nowhere none lowest other low = refl
-
--- ---- what the choice depends on
 
 module _ (test : ℕ → Bool) (before : Order) where
   -- numbers that fail change nothing

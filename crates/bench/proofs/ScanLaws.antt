@@ -25,25 +25,25 @@ module _ (b : Bench) where
   abbrev next-place : ℕ
   next-place = place-or slots (next-of (slot-jobs (b .left) (b .due) (b .arrive) (b .task)) (b .tick))
 
-  pub late-at : (i : ℕ) → i ≡ late-place → i < slots → first-late b ≡ at i
+  pub late-found : (i : ℕ) → i ≡ late-place → i < slots → first-late b ≡ at i
   unfolding first-late
-  late-at = least-at _ slots
+  late-found = least-at _ slots
 
   pub late-none : slots ≤ late-place → first-late b ≡ nowhere
   unfolding first-late
   late-none = least-none _ slots _ refl
 
-  pub left-at : left-place < slots → first-left b ≡ at left-place
+  pub left-found : left-place < slots → first-left b ≡ at left-place
   unfolding first-left
-  left-at = least-at _ slots _ refl
+  left-found = least-at _ slots _ refl
 
   pub left-none : slots ≤ left-place → first-left b ≡ nowhere
   unfolding first-left
   left-none = least-none _ slots _ refl
 
-  pub next-at : (i : ℕ) → i ≡ next-place → i < slots → next-in b ≡ at i
+  pub next-found : (i : ℕ) → i ≡ next-place → i < slots → next-in b ≡ at i
   unfolding next-in jobs-in
-  next-at = place-at _ slots
+  next-found = place-at _ slots
 
   pub next-none : slots ≤ next-place → next-in b ≡ nowhere
   unfolding next-in jobs-in

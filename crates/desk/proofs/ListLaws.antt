@@ -5,7 +5,7 @@ use mathlib.Core.Path.{_≡_, sym, ap, _∙_}
 use mathlib.Core.List.{List}
 use Rattle.model.specs.Task.{Table}
 use Rattle.model.specs.Request.{Requests}
-use Rattle.model.specs.Answer.{Answer, answered, refused}
+use Rattle.model.specs.Answer.{answered, refused}
 use Rattle.table.specs.declared.reader.Shape.{Shape}
 use Rattle.table.specs.declared.reader.Refusal.{Refusal}
 use Rattle.table.specs.declared.reader.Reading.the-variants as reading
@@ -22,8 +22,8 @@ use Rattle.requests.proofs.Exact.{check-count}
 use Rattle.requests.proofs.AcceptedLaws.{listed}
 use Rattle.bench.specs.declared.state.Bench.{Bench}
 use Rattle.bench.specs.Loaded.{loaded, no-jobs}
-use Rattle.desk.specs.Questions.{on-list, list-asked}
-use Rattle.desk.specs.Written.{checked-of, loaded-in}
+use Rattle.desk.specs.Questions.{on-list, list-asked, load-asked}
+use Rattle.desk.specs.Written.{checked-of, loading-of}
 
 module _ (s list : List ℕ) (shape : Shape) (read : reading-of s ≡ reading.Table shape) where
   few : table-of s .tasks ≤ 16
@@ -57,11 +57,11 @@ module _ (s list : List ℕ) (shape : Shape) (read : reading-of s ≡ reading.Ta
 
 -- ---- the check and the bench beside it
 
-pub loaded-refused : {count : Answer ℕ} {load : Answer Bench} {b : Bench} {no : Refusal}
-    → refused (no .number) (no .index) ≡ count → refused (no .number) (no .index) ≡ load → b ≡ loaded no-jobs
-    → record { check = Refused no; bench = b } ≡ loaded-in count load
-loaded-refused counted loads empty = rw (sym counted, sym loads, empty)
+pub loading-refused : (s list : List ℕ) {b : Bench} {no : Refusal} → refused (no .number) (no .index) ≡ list-asked s list
+    → refused (no .number) (no .index) ≡ load-asked s list → b ≡ loaded no-jobs
+    → record { check = Refused no; bench = b } ≡ loading-of s list
+loading-refused s list counted loads empty = rw (sym counted, sym loads, empty)
 
-pub loaded-answered : (count : Answer ℕ) {load : Answer Bench} {b full : Bench} {r : Checked} → r ≡ checked-of count
-    → answered full ≡ load → b ≡ full → record { check = r; bench = b } ≡ loaded-in count load
-loaded-answered count checks loads is = rw (checks, sym loads, is)
+pub loading-answered : (s list : List ℕ) {b full : Bench} {r : Checked} → r ≡ checked-of (list-asked s list)
+    → answered full ≡ load-asked s list → b ≡ full → record { check = r; bench = b } ≡ loading-of s list
+loading-answered s list checks loads is = rw (checks, sym loads, is)

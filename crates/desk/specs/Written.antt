@@ -1,5 +1,6 @@
 -- The document's answers as the desk's values: one case for each.
 -- Assumes nothing.
+use mathlib.Core.List.{List}
 use Prim.Native.Nat.{ℕ}
 use lib.IntN.{ℤ}
 use lib.ListN.{replicate}
@@ -14,6 +15,7 @@ use Rattle.requests.specs.declared.reader.Checked.the-variants as checked
 use Rattle.bench.specs.declared.state.Bench.{Bench}
 use Rattle.bench.specs.Loaded.{loaded, no-jobs}
 use Rattle.bench.specs.Written.{replayed-of}
+use Rattle.desk.specs.Questions.{list-asked, load-asked}
 use Rattle.desk.specs.declared.Amount.{Amount}
 use Rattle.desk.specs.declared.Amount.the-variants as amount
 use Rattle.desk.specs.declared.Spare.{Spare}
@@ -56,6 +58,9 @@ ending-of (answered r) = ending.Is (replayed-of r)
 ending-of (refused number index) = ending.Refused (refusal number index)
 
 -- a bench with nothing to do stands beside a refusal
-abbrev pub loaded-in : Answer ℕ → Answer Bench → Loaded
-loaded-in count (answered b) = record { check = checked-of count; bench = b }
-loaded-in count (refused number index) = record { check = checked-of count; bench = loaded no-jobs }
+abbrev pub bench-in : Answer Bench → Bench
+bench-in (answered b) = b
+bench-in (refused number index) = loaded no-jobs
+
+abbrev pub loading-of : List ℕ → List ℕ → Loaded
+loading-of s list = record { check = checked-of (list-asked s list); bench = bench-in (load-asked s list) }

@@ -1,5 +1,5 @@
 // The desk: each question on raw bytes, answered or refused. Nothing here requires anything of its caller.
-// An answer is `Is` the value, or `Refused` with the refusal's number and record index.
+// An answer is the value (`Is`, for bytes `Table` or `Legal`), or `Refused` with the refusal's number and record index.
 mod good;
 mod lists;
 
@@ -14,8 +14,8 @@ ghost use mathlib.Core.Path.{_≡_};
 ghost use Rattle.table.specs.Reader.{reading-of};
 ghost use Rattle.sums.specs.Sized.{most-by};
 ghost use Rattle.desk.specs.Questions.{one-task, demand-asked, work-asked, margin-asked, window-asked, verdict-asked};
-ghost use Rattle.desk.specs.Questions.{list-asked, replay-asked, load-asked};
-ghost use Rattle.desk.specs.Written.{amount-of, spare-of, window-of, judgement-of, checked-of, ending-of, loaded-in};
+ghost use Rattle.desk.specs.Questions.{list-asked, replay-asked};
+ghost use Rattle.desk.specs.Written.{amount-of, spare-of, window-of, judgement-of, checked-of, ending-of, loading-of};
 
 pub enum Amount {
     Is(u64),
@@ -48,7 +48,8 @@ pub struct Judged {
     pub starts: [u8; 16],
 }
 
-// Whether the list is legal, and the bench that is loaded with it; where it is refused, one with nothing to do.
+// Whether the list is legal, and the bench that is loaded with it. Where it is refused, the bench has nothing to do, and
+// its first tick says *all met*: look at `check` first.
 pub struct Loaded {
     pub check: Checked,
     pub bench: Bench,
@@ -146,10 +147,7 @@ pub fn replay<'a, 'b>(s: &'a [u8], list: &'b [u8]) -> Ending
 
 // The bench loaded with a request list, for a caller that ticks it.
 pub fn load<'a, 'b>(s: &'a [u8], list: &'b [u8]) -> Loaded
-    ensures { λ r. ⌜
-        r ≡ loaded-in (list-asked (now (s .entry)) (now (list .entry)))
-        (load-asked (now (s .entry)) (now (list .entry)))
-        ⌝ }
+    ensures { λ r. ⌜ r ≡ loading-of (now (s .entry)) (now (list .entry)) ⌝ }
 {
     let reading = table::reader::read_table(s);
     let Reading::Table(shape) = reading else {

@@ -6,8 +6,8 @@ use table::reader::Shape;
 ghost use mathlib.Core.Path.{_≡_};
 ghost use Rattle.table.specs.Reader.{reading-of};
 ghost use Rattle.table.specs.declared.reader.Reading.the-variants.{Table};
-ghost use Rattle.desk.specs.Questions.{list-asked, replay-asked, load-asked};
-ghost use Rattle.desk.specs.Written.{checked-of, ending-of, loaded-in};
+ghost use Rattle.desk.specs.Questions.{list-asked, replay-asked};
+ghost use Rattle.desk.specs.Written.{checked-of, ending-of, loading-of};
 
 pub fn check_in<'a, 'b>(s: &'a [u8], shape: Shape, list: &'b [u8]) -> Checked
     requires { ⌜ reading-of (now s) ≡ Table shape ⌝ }
@@ -31,10 +31,7 @@ pub fn replay_in<'a, 'b>(s: &'a [u8], shape: Shape, list: &'b [u8]) -> Ending
 
 pub fn load_in<'a, 'b>(s: &'a [u8], shape: Shape, list: &'b [u8]) -> Loaded
     requires { ⌜ reading-of (now s) ≡ Table shape ⌝ }
-    ensures { λ r. ⌜
-        r ≡ loaded-in (list-asked (now (s .entry)) (now (list .entry)))
-        (load-asked (now (s .entry)) (now (list .entry)))
-        ⌝ }
+    ensures { λ r. ⌜ r ≡ loading-of (now (s .entry)) (now (list .entry)) ⌝ }
 {
     let plan = table::plan::make_plan(s, shape.records, shape.tasks);
     let checked = requests::reader::check_list(s, plan, list);

@@ -14,14 +14,14 @@ use Rattle.laws.proofs.Cases.{lt-or-le}
 use Rattle.laws.proofs.Every.{and-true-left, and-true-right}
 use Rattle.model.specs.Jobs.{Jobs}
 use Rattle.model.specs.Machine.{Order, sooner, ready, chosen, give, left-at}
-use Rattle.model.specs.Tick.{Ready, Gives, One-unit, idle, gives}
+use Rattle.model.specs.Tick.{Pending, Gives, One-unit, idle, gives}
 use Rattle.model.proofs.OrderLaws.{Strict, not-sooner-due}
 use Rattle.model.proofs.PickRight.{Picked, pick-right}
 
 -- ---- any amounts left
 
 module _ (jobs : Jobs) (t : ℕ) (left : ℕ → ℕ) where
-  pub ready-is : (k : ℕ) → k < jobs .count → ready jobs t left k ≡ true → Ready jobs t left k
+  pub ready-is : (k : ℕ) → k < jobs .count → ready jobs t left k ≡ true → Pending jobs t left k
   ready-is k inside passes =
       let arrived = leb (jobs .arrive k) t in
       let undone = ltb 0 (left k) in
@@ -31,7 +31,7 @@ module _ (jobs : Jobs) (t : ℕ) (left : ℕ → ℕ) where
         undone = ltb-true _ _ (and-true-right arrived undone passes);
       }
 
-  pub is-ready : (k : ℕ) → Ready jobs t left k → ready jobs t left k ≡ true
+  pub is-ready : (k : ℕ) → Pending jobs t left k → ready jobs t left k ≡ true
   is-ready k r = rw (le-leb _ _ (r .arrived), lt-ltb _ _ (r .undone))
 
 -- one unit less at b, and nowhere else
@@ -98,7 +98,7 @@ gives-one {i = i} {j = j} one other =
 
 -- "the earliest deadline": by the document's order, what gets the unit is due no later than any that waits
 pub gives-earliest : (jobs : Jobs) {t : ℕ} {left next : ℕ → ℕ} {k : ℕ} → Gives jobs (sooner jobs) t left next k
-    → (j : ℕ) → Ready jobs t left j → jobs .due k ≤ jobs .due j
+    → (j : ℕ) → Pending jobs t left j → jobs .due k ≤ jobs .due j
 gives-earliest jobs {k = k} given j waits = not-sooner-due jobs j k (given .none-before j waits)
 
 -- ---- the machine from the jobs' amounts on

@@ -1,5 +1,5 @@
 -- Requests, and which lists of them are legal: document 01, "A table, record by record". A list has any length, its
--- arrivals are any numbers, and it need not be sorted: length, limit and order are the bench's rules.
+-- arrivals are any numbers, and it need not be sorted: length, limit and order are rules of "The replay bench".
 -- Assumes nothing.
 use mathlib.Core.Path.{_≡_}
 use mathlib.Core.Logic.{_⊎_}

@@ -1,4 +1,5 @@
--- One task's requests, one after the other, as a legal request list has them: document 01, "A table, record by record".
+-- One task's requests by their number, each as far from the next as it must be: document 01, "A table, record by
+-- record".
 -- Assumes nothing.
 use mathlib.Core.Bool.{_&&_}
 use Prim.Native.Nat.{ℕ, suc, _+_, _≤_, _<_}

@@ -7,20 +7,20 @@ use Rattle.model.specs.Jobs.{Jobs}
 use Rattle.model.specs.Machine.{Order}
 
 -- "arrived, unfinished"
-pub record Ready (jobs : Jobs) (t : ℕ) (left : ℕ → ℕ) (k : ℕ) : Type 0 where
+pub record Pending (jobs : Jobs) (t : ℕ) (left : ℕ → ℕ) (k : ℕ) : Type 0 where
   pub inside : k < jobs .count
   pub arrived : jobs .arrive k ≤ t
   pub undone : 0 < left k
 
 -- "with none, the tick is idle": nothing changes
 pub record Idle (jobs : Jobs) (t : ℕ) (left next : ℕ → ℕ) : Type 0 where
-  pub none : (k : ℕ) → Ready jobs t left k → ⊥
+  pub none : (k : ℕ) → Pending jobs t left k → ⊥
   pub same : (k : ℕ) → next k ≡ left k
 
 -- "one unit goes to" job k
 pub record Gives (jobs : Jobs) (before : Order) (t : ℕ) (left next : ℕ → ℕ) (k : ℕ) : Type 0 where
-  pub ready : Ready jobs t left k
-  pub none-before : (j : ℕ) → Ready jobs t left j → before j k ≡ false
+  pub ready : Pending jobs t left k
+  pub none-before : (j : ℕ) → Pending jobs t left j → before j k ≡ false
   pub one-less : left k ≡ next k + 1
   pub others : (j : ℕ) → (j ≡ k → ⊥) → next j ≡ left j
 

@@ -12,7 +12,7 @@ use Rattle.model.specs.Request.{Next}
 use Rattle.requests.specs.declared.entry.Entry.{Entry}
 use Rattle.requests.specs.declared.rules.SoFar.{SoFar}
 use Rattle.requests.specs.Entry.{entry-of, list-of}
-use Rattle.requests.specs.Rules.{none-yet, next-of, soonest}
+use Rattle.requests.specs.Rules.{none-yet, next-frame, soonest}
 
 -- record m is the latest of task k before record i
 pub record Latest (s : List ℕ) (i k m : ℕ) : Type 0 where
@@ -23,7 +23,7 @@ pub record Latest (s : List ℕ) (i k m : ℕ) : Type 0 where
 -- of task k, where `next` and `from` are carried: no record yet, or its latest record says them
 pub data Of-task (table : Table) (s : List ℕ) (i k next from : ℕ) : Type 0 where
   unseen : next ≡ 0 → ((j : ℕ) → j < i → entry-of s j .task ≡ k → ⊥) → Of-task table s i k next from
-  seen : (m : ℕ) → Latest s i k m → next ≡ next-of table (entry-of s m) → from ≡ soonest table (entry-of s m) →
+  seen : (m : ℕ) → Latest s i k m → next ≡ next-frame table (entry-of s m) → from ≡ soonest table (entry-of s m) →
       Of-task table s i k next from
 
 -- x is the record just before

@@ -45,8 +45,8 @@ fault-of table b x = first-broken (misplaced table b x) (out-of-turn b x)
 -- ---- what is known after a good record
 
 -- one more than the task's next frame, and the soonest that it may come
-abbrev pub next-of : Table → Entry → ℕ
-next-of table x = frame (table .task (x .task)) (x .frame) 1 + 1
+abbrev pub next-frame : Table → Entry → ℕ
+next-frame table x = frame (table .task (x .task)) (x .frame) 1 + 1
 
 abbrev pub soonest : Table → Entry → ℕ
 soonest table x = x .arrival + table .task (x .task) .P (x .frame)
@@ -56,7 +56,7 @@ after-of table b x =
     record {
       arrival = x .arrival;
       task = x .task + 1;
-      next = set (b .next) (x .task) (next-of table x);
+      next = set (b .next) (x .task) (next-frame table x);
       from = set (b .from) (x .task) (soonest table x);
     }
 

@@ -6,6 +6,7 @@ ghost use lib.ListN.{length};
 ghost use Rattle.table.specs.Bytes.{size};
 ghost use Rattle.requests.specs.Entry.{word, entry-of};
 
+// A request with its two pad bytes, which rule 10 wants zero.
 pub struct Entry {
     pub task: u8,
     pub frame: u8,
@@ -13,7 +14,8 @@ pub struct Entry {
     pub arrival: u32,
 }
 
-pub fn wide(x: u16) -> u32
+// 16 bits as 32, with the bound that a sum of two asks.
+fn wide(x: u16) -> u32
     ensures { λ r. ⌜ (r ≡ x) × (r < 65536) ⌝ }
 {
     x as u32
@@ -29,6 +31,7 @@ fn word_at(s: &[u8], at: usize) -> u32
     low + 65536 * high
 }
 
+// Record i of a list.
 pub fn entry_at(list: &[u8], i: usize) -> Entry
     requires { ⌜ (i + 1) * size ≤ length (now list) ⌝ }
     ensures { λ r. ⌜ r ≡ entry-of (now (list .entry)) i ⌝ }

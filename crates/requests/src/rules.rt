@@ -7,7 +7,7 @@ ghost use Rattle.model.specs.Request.{Has-frame};
 ghost use Rattle.table.specs.Ready.{Ready};
 ghost use Rattle.table.specs.TableOf.{table-of};
 ghost use Rattle.requests.specs.Rules.{unknown, out-of-order, misplaced, out-of-turn, fault-of};
-ghost use Rattle.requests.specs.Rules.{next-of, soonest, after-of, Placed};
+ghost use Rattle.requests.specs.Rules.{next-frame, soonest, after-of, Placed};
 
 // "arrivals 0 to 65,535"
 pub const LAST_ARRIVAL: u32 = 65535;
@@ -71,7 +71,7 @@ pub fn fault(s: &[u8], plan: Plan, b: SoFar, x: Entry) -> u8
 // One more than the frame that comes after x in its task.
 fn next_after(s: &[u8], plan: Plan, x: Entry) -> u8
     requires { ⌜ Ready (now s) plan × Has-frame (table-of (now s)) (x .task) (x .frame) ⌝ }
-    ensures { λ r. ⌜ r ≡ next-of (table-of (now (s .entry))) x ⌝ }
+    ensures { λ r. ⌜ r ≡ next-frame (table-of (now (s .entry))) x ⌝ }
 {
     let count = table::frame::count_frames(s, plan, x.task as usize);
     ((x.frame as usize + 1) % count + 1) as u8

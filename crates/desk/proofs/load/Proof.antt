@@ -4,7 +4,7 @@ use mathlib.Core.Path.{sym, _∙_}
 use borrow.Author.Needs.{needs}
 use Rattle.desk.specs.Questions.{list-asked, load-asked}
 use Rattle.desk.proofs.AskLaws.{passed-on}
-use Rattle.desk.proofs.ListLaws.{loaded-refused}
+use Rattle.desk.proofs.ListLaws.{loading-refused}
 use Rattle.desk.proofs.load.Statement.{statement}
 use Rattle.desk.proofs.load.Tie as tie
 
@@ -15,7 +15,7 @@ returns c =
     let taken = c .before in
     let told = taken .before in
     let read = told .before .before .read-table .ensures in
-    loaded-refused
+    loading-refused _ _
     (passed-on _ _ read (told .enum-told .given .1) (taken .refusal-of .ensures))
     (passed-on _ _ read (told .enum-told .given .1) (taken .refusal-of .ensures))
     (c .empty .ensures)

@@ -5,7 +5,7 @@ use borrow.Author.Needs.{needs}
 use Rattle.table.proofs.ReadyLaws.{ready-read}
 use Rattle.desk.specs.Questions.{counts, loads, list-asked, load-asked}
 use Rattle.desk.proofs.AskLaws.{plan-room}
-use Rattle.desk.proofs.ListLaws.{list-checked, list-refused, list-answered, list-listed, loaded-refused, loaded-answered}
+use Rattle.desk.proofs.ListLaws.{list-checked, list-refused, list-answered, list-listed, loading-refused, loading-answered}
 use Rattle.desk.proofs.lists.load_in.Statement.{statement}
 use Rattle.desk.proofs.lists.load_in.Tie as tie
 
@@ -22,7 +22,7 @@ returns c =
     let at-plan = at-check .before in
     let start = at-plan .before .before .before in
     let no = told .enum-told .given .1 in
-    loaded-refused
+    loading-refused _ _
     (list-refused _ _ _ (start .pre) (at-check .check-list .ensures) counts no (taken .refusal-of .ensures))
     (list-refused _ _ _ (start .pre) (at-check .check-list .ensures) loads no (taken .refusal-of .ensures))
     (c .empty .ensures)
@@ -44,7 +44,7 @@ returns-2 c =
     let at-plan = at-check .before in
     let start = at-plan .before .before .before in
     let checked = list-checked _ _ _ (start .pre) (at-check .check-list .ensures) in
-    loaded-answered _ (sym (told .checked .given .1) ∙ checked)
+    loading-answered _ _ (sym (told .checked .given .1) ∙ checked)
     (list-answered _ _ _ (start .pre) (at-check .check-list .ensures) (told .checked .given .1) loads)
     (c .load .ensures)
 

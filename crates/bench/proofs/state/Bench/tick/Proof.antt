@@ -3,7 +3,7 @@
 use mathlib.Core.Path.{_∙_, sym}
 use borrow.Author.Needs.{needs}
 use Rattle.model.specs.Replay.{last-tick}
-use Rattle.bench.proofs.ScanLaws.{late-at, late-none, left-at, left-none, next-at, next-none, next-servable}
+use Rattle.bench.proofs.ScanLaws.{late-found, late-none, left-found, left-none, next-found, next-none, next-servable}
 use Rattle.bench.proofs.TickLaws.{tick-past, tick-missed, tick-met, tick-idle, tick-unit}
 use Rattle.bench.proofs.Stopped.{tick-other}
 use Rattle.bench.proofs.state.Bench.tick.Statement.{statement}
@@ -18,7 +18,7 @@ returns-2 c = sym (tick-past _ (search needs))
 
 returns-3 : tie.Need-returns-3
 unfolding last-tick
-returns-3 c = c .stop .ensures ∙ sym (tick-missed (search needs) (late-at _ _ (search needs) (search needs)))
+returns-3 c = c .stop .ensures ∙ sym (tick-missed (search needs) (late-found _ _ (search needs) (search needs)))
 
 returns-4 : tie.Need-returns-4
 unfolding last-tick
@@ -30,7 +30,7 @@ returns-5 : tie.Need-returns-5
 unfolding last-tick
 returns-5 c =
     sym
-    (tick-idle (search needs) (late-none _ (search needs)) (left-at _ (search needs)) (next-none _ (search needs)))
+    (tick-idle (search needs) (late-none _ (search needs)) (left-found _ (search needs)) (next-none _ (search needs)))
 
 serve-requires : tie.Need-serve-requires
 unfolding last-tick
@@ -44,8 +44,8 @@ returns-6 c =
     (tick-unit
     (search needs)
     (late-none _ (search needs))
-    (left-at _ (search needs))
-    (next-at _ _ (search needs) (search needs)))
+    (left-found _ (search needs))
+    (next-found _ _ (search needs) (search needs)))
 
 pub tick-spec : {M : Type 1} → statement M
 tick-spec =

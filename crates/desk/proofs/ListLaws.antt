@@ -57,7 +57,8 @@ module _ (s list : List ℕ) (shape : Shape) (read : reading-of s ≡ reading.Ta
 
 -- ---- the check and the bench beside it
 
-pub loading-refused : (s list : List ℕ) {b : Bench} {no : Refusal} → refused (no .number) (no .index) ≡ list-asked s list
+pub loading-refused : (s list : List ℕ) {b : Bench} {no : Refusal}
+    → refused (no .number) (no .index) ≡ list-asked s list
     → refused (no .number) (no .index) ≡ load-asked s list → b ≡ loaded no-jobs
     → record { check = Refused no; bench = b } ≡ loading-of s list
 loading-refused s list counted loads empty = rw (sym counted, sym loads, empty)

@@ -48,8 +48,8 @@ pub struct Judged {
     pub starts: [u8; 16],
 }
 
-// Whether the list is legal, and the bench that is loaded with it. Where it is refused, the bench has nothing to do, and
-// its first tick says *all met*: look at `check` first.
+// Whether the list is legal, and the bench that is loaded with it. Where it is refused, the bench has nothing to do,
+// and its first tick says *all met*: look at `check` first.
 pub struct Loaded {
     pub check: Checked,
     pub bench: Bench,

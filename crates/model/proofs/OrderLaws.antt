@@ -65,7 +65,8 @@ module _ (key : ℕ → ℕ) {rest : Order} (by-rest : Strict rest) where
   unfolding by-key
   first-by-transitive i j k one two =
       elim (first-by-true (key i) (key j) (rest i j) one) [
-        | inl less ↦ first-by-less (key i) (key k) (rest i k) (lt-of-lt-of-le less (first-by-most (key j) (key k) (rest j k) two))
+        | inl less ↦ first-by-less (key i) (key k) (rest i k)
+            (lt-of-lt-of-le less (first-by-most (key j) (key k) (rest j k) two))
         | inr tie ↦ elim (first-by-true (key j) (key k) (rest j k) two) [
           | inl less ↦ first-by-less (key i) (key k) (rest i k) (omega (arith, tie .0))
           | inr next ↦ first-by-same (key i) (key k) (rest i k) (tie .0 ∙ next .0)

@@ -15,7 +15,7 @@ pub struct Entry {
 }
 
 // 16 bits as 32, with the bound that a sum of two asks.
-fn wide(x: u16) -> u32
+pub fn wide(x: u16) -> u32
     ensures { λ r. ⌜ (r ≡ x) × (r < 65536) ⌝ }
 {
     x as u32

@@ -9,7 +9,7 @@ use lib.ListN.{getD}
 use Rattle.laws.proofs.Cases.{lt-or-le}
 use Rattle.model.specs.Jobs.{Jobs}
 use Rattle.model.specs.Machine.{sooner, chosen, give, left-at}
-use Rattle.model.specs.Replay.{Late}
+use Rattle.model.specs.Replay.{Late-at}
 use Rattle.model.proofs.JobsSame.{Beside, chosen-same, give-same}
 use Rattle.model.proofs.MachineLaws.{left-start, left-step, give-falls}
 use Rattle.bench.specs.declared.state.Bench.{Bench}
@@ -64,7 +64,7 @@ module _ (jobs : Jobs) (fits : jobs .count ≤ slots) where
 
     -- ---- late in the bench is late on the machine
 
-    pub late-there : (k : ℕ) → Late-in b k → Late jobs (sooner jobs) t k
+    pub late-there : (k : ℕ) → Late-in b k → Late-at jobs (sooner jobs) t k
     late-there k late =
         let inside = undone-inside k (late .undone) in
         record {
@@ -73,7 +73,7 @@ module _ (jobs : Jobs) (fits : jobs .count ≤ slots) where
           over = omega (arith, due-at k inside, late .over, holds .tick);
         }
 
-    pub late-here : (k : ℕ) → Late jobs (sooner jobs) t k → Late-in b k
+    pub late-here : (k : ℕ) → Late-at jobs (sooner jobs) t k → Late-in b k
     late-here k late =
         record {
           inside = omega (arith, late .inside);
@@ -84,7 +84,6 @@ module _ (jobs : Jobs) (fits : jobs .count ≤ slots) where
     -- ---- and the next is the same
 
     beside : Beside jobs (jobs-in b) (left-at jobs (sooner jobs) t) (left-in b)
-    unfolding jobs-in
     beside =
         record {
           fits = fits;
@@ -96,7 +95,7 @@ module _ (jobs : Jobs) (fits : jobs .count ≤ slots) where
         }
 
     next-same : next-in b ≡ chosen jobs (sooner jobs) t (left-at jobs (sooner jobs) t)
-    unfolding next-in jobs-in
+    unfolding next-in
     next-same = ap (λ u. chosen (jobs-in b) (sooner (jobs-in b)) u (left-in b)) (holds .tick) ∙ chosen-same beside t
 
     moved-left : (k : ℕ) → k < jobs .count

@@ -10,7 +10,7 @@ use Rattle.laws.proofs.Cases.{lt-or-le, lt-or-last}
 use Rattle.model.specs.Jobs.{Jobs}
 use Rattle.model.specs.Machine.{sooner, left-at}
 use Rattle.model.specs.Replay as Replay
-use Rattle.model.specs.Replay.{last-tick, Late, Undone, Met}
+use Rattle.model.specs.Replay.{last-tick, Late-at, Undone-at, Met}
 use Rattle.model.proofs.MachineLaws.{left-mono}
 use Rattle.bench.specs.declared.state.Bench.{Bench}
 use Rattle.bench.specs.declared.state.Outcome.the-variants.{Running, Missed, AllMet}
@@ -24,8 +24,8 @@ use Rattle.bench.proofs.Holding.{holds-start, holds-stopped, holds-move
 
 -- what the machine has behind it before tick t: no miss, and always work
 pub record Behind (jobs : Jobs) (t : ℕ) : Type 0 where
-  pub on-time : (u k : ℕ) → u < t → Late jobs (sooner jobs) u k → ⊥
-  pub worked : (u : ℕ) → u < t → Undone jobs (sooner jobs) u
+  pub on-time : (u k : ℕ) → u < t → Late-at jobs (sooner jobs) u k → ⊥
+  pub worked : (u : ℕ) → u < t → Undone-at jobs (sooner jobs) u
 
 -- where the bench stands after n calls
 pub data Stage (jobs : Jobs) (n : ℕ) (b : Bench) : Type 0 where
@@ -35,19 +35,19 @@ pub data Stage (jobs : Jobs) (n : ℕ) (b : Bench) : Type 0 where
   met : (t : ℕ) → t < n → b .outcome ≡ AllMet → Holds jobs t b → Met jobs (sooner jobs) t → Stage jobs n b
 
 -- one tick more behind it
-behind-more : (jobs : Jobs) (t : ℕ) → Behind jobs t → ((k : ℕ) → Late jobs (sooner jobs) t k → ⊥)
-    → Undone jobs (sooner jobs) t → Behind jobs (suc t)
+behind-more : (jobs : Jobs) (t : ℕ) → Behind jobs t → ((k : ℕ) → Late-at jobs (sooner jobs) t k → ⊥)
+    → Undone-at jobs (sooner jobs) t → Behind jobs (suc t)
 behind-more jobs t behind none undone =
     record {
       on-time = λ u k less late.
           elim (lt-or-last u t less) [
             | inl earlier ↦ behind .on-time u k earlier late
-            | inr now ↦ none k (subst (λ s. Late jobs (sooner jobs) s k) now late)
+            | inr now ↦ none k (subst (λ s. Late-at jobs (sooner jobs) s k) now late)
           ];
       worked = λ u less.
           elim (lt-or-last u t less) [
             | inl earlier ↦ behind .worked u earlier
-            | inr now ↦ subst (Undone jobs (sooner jobs)) (sym now) undone
+            | inr now ↦ subst (Undone-at jobs (sooner jobs)) (sym now) undone
           ];
     }
 
@@ -76,8 +76,11 @@ module _ (jobs : Jobs) (fits : jobs .count ≤ slots) where
     stop-missed : (i : ℕ) → Misses b i → Replay.Missed jobs (sooner jobs) n i
     stop-missed i misses =
         record {
-          late = late-there jobs fits n b holds i (misses .late);
-          lowest = λ j less late. misses .lowest j less (late-here jobs fits n b holds j late);
+          misses =
+              record {
+                late = late-there jobs fits n b holds i (misses .late);
+                lowest = λ j less late. misses .lowest j less (late-here jobs fits n b holds j late);
+              };
           first = behind .on-time;
         }
 
@@ -86,12 +89,12 @@ module _ (jobs : Jobs) (fits : jobs .count ≤ slots) where
 
     go-on : None-late b → Some-left b → Behind jobs (suc n)
     go-on none some =
-        let inside = undone-inside jobs fits n b holds (some .slot) (some .undone) in
+        let inside = undone-inside jobs fits n b holds (some .job) (some .undone) in
         behind-more jobs n behind (λ k late. none k (late-here jobs fits n b holds k late))
         (record {
-          job = some .slot;
+          job = some .job;
           inside = inside;
-          undone = omega (arith, some .undone, holds .left (some .slot) inside);
+          undone = omega (arith, some .undone, holds .left (some .job) inside);
         })
 
     turn-stage : (next : Bench) → Ticked b next → Stage jobs (suc n) next

@@ -11,7 +11,7 @@ use Rattle.laws.proofs.PlaceLaws.{place-at, place-none, least-at, least-none}
 use Rattle.model.specs.Replay.{last-tick}
 use Rattle.model.proofs.PickLaws.{pick-below, pick-passes}
 use Rattle.bench.specs.declared.state.Bench.{Bench}
-use Rattle.bench.specs.Rule.{slots, slot-jobs, jobs-in, has-left, is-late, first-late, first-left, next-of, next-in}
+use Rattle.bench.specs.Rule.{slots, slot-jobs, has-left, is-late, first-late, first-left, next-of, next-in}
 use Rattle.bench.specs.Scan.{Servable}
 
 module _ (b : Bench) where
@@ -42,11 +42,11 @@ module _ (b : Bench) where
   left-none = least-none _ slots _ refl
 
   pub next-found : (i : ℕ) → i ≡ next-place → i < slots → next-in b ≡ at i
-  unfolding next-in jobs-in
+  unfolding next-in
   next-found = place-at _ slots
 
   pub next-none : slots ≤ next-place → next-in b ≡ nowhere
-  unfolding next-in jobs-in
+  unfolding next-in
   next-none = place-none _ slots _ (pick-below _ _ slots) refl
 
   -- "unfinished": what is served has a unit left

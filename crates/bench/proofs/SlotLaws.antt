@@ -70,7 +70,7 @@ module _ (b : Bench) where
   pub first-left-at : (k : ℕ) → first-left b ≡ at k → Some-left b
   first-left-at k found =
       let least = subst (Right left-test slots 0) found left-right in
-      record { slot = k; inside = least .high; undone = ltb-true _ _ (least .passes) }
+      record { job = k; inside = least .high; undone = ltb-true _ _ (least .passes) }
 
   pub first-left-none : first-left b ≡ nowhere → (k : ℕ) → k < slots → left-in b k ≡ 0
   first-left-none found k inside =
@@ -82,7 +82,7 @@ module _ (b : Bench) where
   -- ---- the one that gets the unit
 
   pub next-unit : One-unit (jobs-in b) (sooner (jobs-in b)) (b .tick) (left-in b) (give (next-in b) (left-in b))
-  unfolding next-in jobs-in
+  unfolding next-in
   next-unit = one-unit (jobs-in b) (sooner (jobs-in b)) (b .tick) (left-in b) (sooner-strict (jobs-in b))
 
 -- ---- a unit less, in the list: past its end both sides are 0

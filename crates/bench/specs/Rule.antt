@@ -29,7 +29,7 @@ slot-jobs left due arrive task =
       amount = λ k. getD left k 0;
     }
 
-unfoldable pub jobs-in : Bench → Jobs
+abbrev pub jobs-in : Bench → Jobs
 jobs-in b = slot-jobs (b .left) (b .due) (b .arrive) (b .task)
 
 abbrev pub has-left : List ℕ → ℕ → Bool

@@ -5,7 +5,7 @@ use Prim.Native.Nat.{ℕ, _≤_, _<_}
 use lib.ListN.{getD}
 use Rattle.model.specs.Machine.{sooner}
 use Rattle.model.specs.Replay.{last-tick}
-use Rattle.model.specs.Tick.{Gives, One-unit}
+use Rattle.model.specs.Tick.{Late, Lowest-late, Undone, Gives, One-unit}
 use Rattle.bench.specs.declared.state.Bench.{Bench}
 use Rattle.bench.specs.declared.state.Outcome.the-variants.{Running, Missed, AllMet}
 use Rattle.bench.specs.Rule.{slots, jobs-in, next-in, less-one, with-outcome, moved-on}
@@ -15,15 +15,12 @@ abbrev pub left-in : Bench → ℕ → ℕ
 left-in b k = getD (b .left) k 0
 
 -- "work left and deadline at most T"
-pub record Late-in (b : Bench) (k : ℕ) : Type 0 where
-  pub inside : k < slots
-  pub undone : 0 < left-in b k
-  pub over : getD (b .due) k 0 ≤ b .tick
+abbrev pub Late-in : Bench → ℕ → Type 0
+Late-in b k = Late (jobs-in b) (b .tick) (left-in b) k
 
 -- "names the one with the lowest record index"
-pub record Misses (b : Bench) (i : ℕ) : Type 0 where
-  pub late : Late-in b i
-  pub lowest : (j : ℕ) → j < i → Late-in b j → ⊥
+abbrev pub Misses : Bench → ℕ → Type 0
+Misses b i = Lowest-late (jobs-in b) (b .tick) (left-in b) i
 
 abbrev pub None-late : Bench → Type 0
 None-late b = (k : ℕ) → Late-in b k → ⊥
@@ -34,10 +31,8 @@ pub record Going (b : Bench) : Type 0 where
   pub in-time : b .tick ≤ last-tick
 
 -- some slot has work left
-pub record Some-left (b : Bench) : Type 0 where
-  pub slot : ℕ
-  pub inside : slot < slots
-  pub undone : 0 < left-in b slot
+abbrev pub Some-left : Bench → Type 0
+Some-left b = Undone (jobs-in b) (left-in b)
 
 pub data Ticked (b : Bench) : Bench → Type 0 where
   -- "A stopped bench .. comes back from a tick unchanged, and so does a state past that last tick."

@@ -27,7 +27,7 @@ use Rattle.table.proofs.Exact.{read-good}
 use Rattle.table.proofs.TaskLaws.{proper-table}
 use Rattle.requests.specs.Entry.{entry-of}
 use Rattle.requests.specs.Reader.{check-from, check-of}
-use Rattle.bench.specs.Rule.{jobs-in, first-late, first-left, next-in, tick-of, run-of}
+use Rattle.bench.specs.Rule.{first-late, first-left, next-in, tick-of, run-of}
 use Rattle.bench.specs.Loaded.{slots-of, loaded, run-whole, replay-of}
 use Rattle.desk.specs.Questions.{on-table, demand-asked, verdict-asked, replay-asked}
 use Rattle.desk.specs.Named.{Question, demand-of, verdict-on, replay-with, Said, says-number, says-verdict, says-replay, said, Row, A, B, B-list, named}
@@ -79,7 +79,7 @@ unfolding named A B right by-walk quick is-byte every same-said same-answer same
     overloaded-at fits-at starts lowest all-demands all-work counted offset frame sum greatest tabulate
     least-from first-least
     B-list same-replay replay-asked check-of check-from entry-of last-arrival last-tick replay-of run-whole run-of
-    loaded slots-of tick-of first-late first-left next-in jobs-in pick sooner
+    loaded slots-of tick-of first-late first-left next-in pick sooner
 all-right = tt
 
 -- K1, K2, K3, K4's verdict, K5, K6, K7

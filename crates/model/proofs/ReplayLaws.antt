@@ -19,12 +19,12 @@ module _ (jobs : Jobs) (before : Order) where
     where
       same-tick : t ≡ u
       same-tick =
-          neither-lower t u (λ less. other .first t i less (one .late)) (λ more. one .first u j more (other .late))
+          neither-lower t u (λ less. other .first t i less (one .misses .late)) (λ more. one .first u j more (other .misses .late))
 
       same-job : i ≡ j
       same-job =
-          neither-lower i j (λ less. other .lowest i less (rw same-tick at (one .late)))
-          (λ more. one .lowest j more (rw (sym same-tick) at (other .late)))
+          neither-lower i j (λ less. other .misses .lowest i less (rw same-tick at (one .misses .late)))
+          (λ more. one .misses .lowest j more (rw (sym same-tick) at (other .misses .late)))
 
   -- at the earlier of two such ticks all would be done, and some job not
   not-earlier : (t u : ℕ) → Met jobs before t → Met jobs before u → t < u → ⊥
@@ -34,8 +34,8 @@ module _ (jobs : Jobs) (before : Order) where
 
   pub says-one : (x y : Replayed) → Says jobs before x → Says jobs before y → x ≡ y
   says-one (missed t i) (missed u j) one other = missed-one t i u j one other
-  says-one (missed t i) (all-met u) miss met = absurd (met .on-time t i (miss .late))
-  says-one (all-met t) (missed u j) met miss = absurd (met .on-time u j (miss .late))
+  says-one (missed t i) (all-met u) miss met = absurd (met .on-time t i (miss .misses .late))
+  says-one (all-met t) (missed u j) met miss = absurd (met .on-time u j (miss .misses .late))
   says-one (all-met t) (all-met u) one other =
       ap all-met (neither-lower t u (not-earlier t u one other) (not-earlier u t other one))
 

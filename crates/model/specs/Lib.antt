@@ -7,5 +7,5 @@ pub mod Answer
 pub mod Request
 pub mod Jobs
 pub mod Machine
-pub mod Replay
 pub mod Tick
+pub mod Replay

@@ -1,4 +1,5 @@
--- What one tick does with the amounts left, in words that any machine can be held to: document 01, "The replay bench".
+-- What one tick finds and does with the amounts left, in words that any machine can be held to: document 01, "The
+-- replay bench".
 -- Assumes nothing.
 use mathlib.Core.Path.{_≡_}
 use mathlib.Core.Bool.{false}
@@ -11,6 +12,23 @@ pub record Pending (jobs : Jobs) (t : ℕ) (left : ℕ → ℕ) (k : ℕ) : Type
   pub inside : k < jobs .count
   pub arrived : jobs .arrive k ≤ t
   pub undone : 0 < left k
+
+-- "work left and deadline at most T"
+pub record Late (jobs : Jobs) (t : ℕ) (left : ℕ → ℕ) (k : ℕ) : Type 0 where
+  pub inside : k < jobs .count
+  pub undone : 0 < left k
+  pub over : jobs .due k ≤ t
+
+-- "the one with the lowest record index"
+pub record Lowest-late (jobs : Jobs) (t : ℕ) (left : ℕ → ℕ) (i : ℕ) : Type 0 where
+  pub late : Late jobs t left i
+  pub lowest : (j : ℕ) → j < i → Late jobs t left j → ⊥
+
+-- some job is not done
+pub record Undone (jobs : Jobs) (left : ℕ → ℕ) : Type 0 where
+  pub job : ℕ
+  pub inside : job < jobs .count
+  pub undone : 0 < left job
 
 -- "with none, the tick is idle": nothing changes
 pub record Idle (jobs : Jobs) (t : ℕ) (left next : ℕ → ℕ) : Type 0 where

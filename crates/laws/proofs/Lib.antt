@@ -5,6 +5,8 @@ pub mod Fill
 pub mod LeastLaws
 pub mod PeakLaws
 pub mod PlaceLaws
+pub mod ReaderLaws
+pub mod ReaderExact
 pub mod SearchLaws
 pub mod SignedLaws
 pub mod SignedOrder

@@ -1,2 +1,3 @@
 pub mod Sums
 pub mod Search
+pub mod Reader

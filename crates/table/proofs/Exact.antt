@@ -1,76 +1,59 @@
 -- The reader is exact, both ways: it gives a table exactly where the bytes are well formed, and a refusal exactly where
 -- document 01 names that refusal with that index.
 -- Assumes nothing.
-use Prim.Native.Nat.{ℕ, _+_, _*_, _≤_}
-use mathlib.Core.Path.{_≡_, refl, _∙_}
-use mathlib.Core.Logic.{inl, inr}
+use Prim.Native.Nat.{ℕ, _*_, _≤_}
+use mathlib.Core.Path.{_≡_, refl, sym}
 use mathlib.Core.List.{List}
-use mathlib.Core.Bool.{Bool, true, false}
 use lib.ListN.{length}
 use native.Mathlib.Omega.{arith}
-use native.Mathlib.Nat.{zero-add}
-use borrow.Author.Count.{below-none}
-use Rattle.laws.proofs.Tests.{kept, broken}
+use Rattle.laws.specs.Reader.{Read, whole, stopped, read}
+use Rattle.laws.proofs.ReaderExact.{Said, said, faultless-read, faulty-read}
+use Rattle.table.specs.declared.rules.SoFar.{SoFar}
 use Rattle.table.specs.declared.reader.Shape.{Shape}
 use Rattle.table.specs.declared.reader.Refusal.{Refusal}
 use Rattle.table.specs.declared.reader.Reading.the-variants.{Table, Refused}
 use Rattle.table.specs.Bytes.{size, records}
-use Rattle.table.specs.Reader.{most-records, bad-length, reading-of}
-use Rattle.table.specs.WellFormed.{Length-right, Good, WellFormed}
-use Rattle.table.specs.Refusals.{Bad-record, Refused-with}
+use Rattle.table.specs.Reader.{most-records, reader-of, reading-in, reading-of}
+use Rattle.table.specs.WellFormed.{WellFormed}
+use Rattle.table.specs.Refusals.{Refused-with}
 use Rattle.table.specs.TableOf.{table-of}
-use Rattle.table.proofs.LengthLaws.{catches-length, right-some, right-few}
-use Rattle.table.proofs.Turns.{read-short, read-long}
-use Rattle.table.proofs.KnownLaws.{known-start}
+use Rattle.table.proofs.LengthLaws.{right-some, right-few}
+use Rattle.table.proofs.Turns.{read-stopped, read-whole}
+use Rattle.table.proofs.KnownLaws.{before-it}
 use Rattle.table.proofs.Rising.{few-tasks}
-use Rattle.table.proofs.ReadLaws.{good-from, refused-from, Said, stopped, said-from, said-good}
-
--- what the reading says, where the length is right
-said : (s : List ℕ) → bad-length (length s) ≡ false → Said s (records s) (reading-of s)
-said s fine =
-    rw (read-long s fine) (rw zero-add at (said-from (records s) (known-start s) (below-none (Good s))))
-
-said-refused : {s : List ℕ} {r : Refusal} → Length-right (length s) → Said s (records s) (Refused r) →
-    Bad-record s (r .number) (r .index)
-said-refused long (stopped within good breaks) =
-    record { long = long; within = within; before = good; breaks = breaks }
+use Rattle.table.proofs.ReadLaws.{rules-of}
 
 -- ---- a table is read exactly where the bytes are well formed
 
 pub read-good : (s : List ℕ) (t : Shape) → reading-of s ≡ Table t → WellFormed s
-read-good s t is = which (bad-length (length s)) refl
+unfolding reading-of
+read-good s t is = from (read (reader-of s)) (said (rules-of s)) is
   where
-    which : (bad : Bool) → bad-length (length s) ≡ bad → WellFormed s
-    which true e = let z : _≡_ {A = ℕ} 0 1 = cc (read-short s e) in absurd (omega arith)
-    which false e = record { long = catches-length (length s) .passed e; good = said-good (rw is at (said s e)) }
+    from : (x : Read SoFar) → Said (rules-of s) x → reading-in (records s) x ≡ Table t → WellFormed s
+    from (whole b) faultless same = record { long = faultless .long; good = faultless .good }
+    from (stopped number index) faulty same = let z : _≡_ {A = ℕ} 0 1 = cc in absurd (omega arith)
 
 pub good-read : (s : List ℕ) → WellFormed s →
     reading-of s ≡ Table (record { records = records s; tasks = table-of s .tasks })
 good-read s well =
-    read-long s (kept (catches-length (length s)) (well .long))
-    ∙ rw zero-add at (good-from (records s) (known-start s) some (λ j within. well .good j (omega arith)))
-  where
-    some : 1 ≤ 0 + records s
-    some = omega (arith, right-some (well .long))
+    let end = faultless-read (rules-of s) (well .long) (well .good) in
+    sym (read-whole s (end .is) refl (before-it (end .known) (right-some (well .long)) .task))
 
 -- ---- a refusal is given exactly where document 01 gives it
 
 pub read-refused : (s : List ℕ) (r : Refusal) → reading-of s ≡ Refused r → Refused-with s (r .number) (r .index)
-read-refused s r is = which (bad-length (length s)) refl
+unfolding reading-of
+read-refused s r is = from (read (reader-of s)) (said (rules-of s)) is
   where
-    which : (bad : Bool) → bad-length (length s) ≡ bad → Refused-with s (r .number) (r .index)
-    which true e =
-        let r-is : r ≡ record { number = 1; index = 0 } = cc (read-short s e) in
-        inl (rw r-is (record { number-is = refl; index-is = refl; wrong = catches-length (length s) .caught e }))
-    which false e = inr (said-refused (catches-length (length s) .passed e) (rw is at (said s e)))
+    from : (x : Read SoFar) → Said (rules-of s) x → reading-in (records s) x ≡ Refused r →
+        Refused-with s (r .number) (r .index)
+    from (whole b) faultless same = let z : _≡_ {A = ℕ} 0 1 = cc in absurd (omega arith)
+    from (stopped number index) faulty same =
+        let r-is : r ≡ record { number = number; index = index } = cc in rw r-is faulty
 
 pub refused-read : (s : List ℕ) (number index : ℕ) → Refused-with s number index →
     reading-of s ≡ Refused (record { number = number; index = index })
-refused-read s number index (inl bad) =
-    rw (bad .number-is, bad .index-is) (read-short s (broken (catches-length (length s)) (bad .wrong)))
-refused-read s number index (inr bad) =
-    read-long s (kept (catches-length (length s)) (bad .long))
-    ∙ refused-from (records s) (known-start s) (omega arith) (omega (arith, bad .within)) (bad .before) (bad .breaks)
+refused-read s number index bad = sym (read-stopped s (faulty-read (rules-of s) number index bad))
 
 -- ---- what a caller that has read a table knows
 

@@ -1,11 +1,13 @@
 -- The answer for any bytes taken as a table: document 01, "When the desk says no", refusals 1 to 6.
 -- "Tables are tested first: length, then records in order, in each record 2, 3, 4, 5, 6."
 -- Assumes nothing.
-use Prim.Native.Nat.{ℕ, zero, suc, _+_, _*_, _%_}
+use Prim.Native.Nat.{ℕ, _*_, _%_}
 use mathlib.Core.List.{List}
-use mathlib.Core.Bool.{Bool, not, cond, _||_}
+use mathlib.Core.Bool.{Bool, not, _||_}
 use lib.ListN.{length}
 use lib.Dec.{ltb, eqb}
+use Rattle.laws.specs.Reader.{Reader, Read, whole, stopped, read}
+use Rattle.table.specs.declared.record.Record.{Record}
 use Rattle.table.specs.declared.rules.SoFar.{SoFar}
 use Rattle.table.specs.declared.reader.Refusal.{Refusal}
 use Rattle.table.specs.declared.reader.Reading.{Reading}
@@ -21,20 +23,25 @@ most-records = 64
 abbrev pub bad-length : ℕ → Bool
 bad-length n = (eqb n 0 || ltb (most-records * size) n) || not (eqb (n % size) 0)
 
--- refusal `number` at record i; where the number is 0, what follows
-abbrev pub refuse-at : ℕ → ℕ → Reading → Reading
-refuse-at zero i rest = rest
-refuse-at (suc number) i rest = Refused (record { number = suc number; index = i })
+abbrev pub reader-of : List ℕ → Reader SoFar Record
+reader-of s =
+    record {
+      bad-length = bad-length (length s);
+      length-number = 1;
+      count = records s;
+      at = record-of s;
+      start = none-yet;
+      fault = fault-of;
+      after = after-of;
+    }
 
--- `left` records are left, the next is record i, and b is known of those before it
-unfoldable pub read-from : ℕ → List ℕ → ℕ → SoFar → Reading
-read-from zero s i b = Table (record { records = i; tasks = b .tasks })
-read-from (suc left) s i b =
-    refuse-at (fault-of b (record-of s i)) i (read-from left s (i + 1) (after-of b (record-of s i)))
+-- where n records were read, a table of them
+abbrev pub reading-in : ℕ → Read SoFar → Reading
+reading-in n (whole b) = Table (record { records = n; tasks = b .tasks })
+reading-in n (stopped number index) = Refused (record { number = number; index = index })
 
 unfoldable pub reading-of : List ℕ → Reading
-reading-of s =
-    cond (bad-length (length s)) (Refused (record { number = 1; index = 0 })) (read-from (records s) s 0 none-yet)
+reading-of s = reading-in (records s) (read (reader-of s))
 
 -- the refusal that a reading carries
 abbrev pub refusal-in : Reading → Refusal

@@ -1,40 +1,42 @@
--- `table::reader::read_table` meets its contract. The loop's invariant, `Reads-on`: before record i, reading on from
+-- `table::reader::read_table` meets its contract. The loop's invariant, `Reads-few`: before record i, reading on from
 -- there with what is known of the records passed gives the whole reading. The measure is the records left.
 -- Assumes nothing.
 use Prim.Native.Nat.{_-_}
 use mathlib.Core.Path.{sym, _∙_}
 use borrow.Author.Needs.{needs}
-use Rattle.table.proofs.Turns.{Reads-on, read-short, reads-start, reads-turn, reads-refused, reads-done}
+use Rattle.laws.proofs.ReaderLaws.{read-short, reads-stopped, reads-whole}
+use Rattle.table.proofs.Turns.{read-stopped, read-whole, Reads-few, few-start, few-turn}
 use Rattle.table.proofs.reader.read_table.Statement.{statement}
 use Rattle.table.proofs.reader.read_table.Tie as tie
 
 abbrev Inv-loop : tie.InvT-loop
-Inv-loop s len n b₀ i₀ b i = Reads-on s n i b
+Inv-loop s len n b₀ i₀ b i = Reads-few s n i b
 
 abbrev μ-loop : tie.MeasureT-loop
 μ-loop s len n b₀ i₀ b i = n - i
 
 returns : tie.Need-returns Inv-loop μ-loop
-returns c = sym (read-short _ (sym (c .before .is-bad-length .ensures) ∙ c .if1 .taken))
+returns c = read-stopped _ (read-short _ (sym (c .before .is-bad-length .ensures) ∙ c .if1 .taken))
 
 loop-holds : tie.Need-loop-holds Inv-loop μ-loop
-loop-holds c = reads-start _ (c .before .is-bad-length .ensures) (c .if1 .left)
+loop-holds c = few-start _ (c .before .is-bad-length .ensures) (c .if1 .left)
 
 returns-2 : tie.Need-returns-2 Inv-loop μ-loop
 returns-2 c =
     let at-record = c .before .before in
-    reads-refused
-    (at-record .before .before .loop .inv)
+    read-stopped _
+    (reads-stopped
+    (at-record .before .before .loop .inv .on)
     (search needs)
     (at-record .record-at .ensures)
     (c .before .fault .ensures)
-    (search needs)
+    (search needs))
 
 loop-again : tie.Need-loop-again Inv-loop μ-loop
 loop-again c =
     let at-fault = c .before .before in
     let at-record = at-fault .before in
-    reads-turn
+    few-turn
     (at-record .before .before .loop .inv)
     (search needs)
     (at-record .record-at .ensures)
@@ -43,7 +45,9 @@ loop-again c =
     (search needs)
 
 returns-3 : tie.Need-returns-3 Inv-loop μ-loop
-returns-3 c = reads-done (c .before .before .loop .inv) (search needs) (search needs) (search needs)
+returns-3 c =
+    let on = c .before .before .loop .inv .on in
+    read-whole _ (reads-whole on (search needs)) (search needs) (search needs)
 
 pub read-table-spec : {M : Type 1} → statement M
 read-table-spec =

@@ -10,6 +10,7 @@ use lib.Dec.{T, ltb, ltb→lt}
 use lib.ListN.{length, getD}
 use Rattle.laws.specs.Sums.{sum, greatest, tabulate}
 use Rattle.laws.specs.Search.{least-from, first-least}
+use Rattle.laws.specs.Reader.{read-on, read}
 use Rattle.laws.proofs.Every.{both-left, both-right, every, every-at}
 use Rattle.model.specs.Demand.{frame, offset, counted, lowest, all-demands, all-work}
 use Rattle.model.specs.Verdict.{horizon, closes, overloads, starts, overloaded-at, fits-at}
@@ -21,12 +22,12 @@ use Rattle.model.specs.Replay.{last-tick}
 use Rattle.table.specs.declared.reader.Reading.{Reading}
 use Rattle.table.specs.declared.reader.Reading.the-variants.{Table, Refused}
 use Rattle.table.specs.Bytes.{record-of}
-use Rattle.table.specs.Reader.{read-from, reading-of}
+use Rattle.table.specs.Reader.{reading-of}
 use Rattle.table.specs.TableOf.{records-before, records-of, task-of}
 use Rattle.table.proofs.Exact.{read-good}
 use Rattle.table.proofs.TaskLaws.{proper-table}
 use Rattle.requests.specs.Entry.{entry-of}
-use Rattle.requests.specs.Reader.{check-from, check-of}
+use Rattle.requests.specs.Reader.{check-of}
 use Rattle.bench.specs.Rule.{first-late, first-left, next-in, tick-of, run-of}
 use Rattle.bench.specs.Loaded.{slots-of, loaded, run-whole, replay-of}
 use Rattle.desk.specs.Questions.{on-table, demand-asked, verdict-asked, replay-asked}
@@ -75,10 +76,10 @@ right-is row h =
 
 all-right : T (every right named)
 unfolding named A B right by-walk quick is-byte every same-said same-answer same-verdict same-list same-int
-    demand-asked reading-of read-from record-of records-before records-of task-of horizon walk overloads closes
+    demand-asked reading-of read read-on record-of records-before records-of task-of horizon walk overloads closes
     overloaded-at fits-at starts lowest all-demands all-work counted offset frame sum greatest tabulate
     least-from first-least
-    B-list same-replay replay-asked check-of check-from entry-of last-arrival last-tick replay-of run-whole run-of
+    B-list same-replay replay-asked check-of entry-of last-arrival last-tick replay-of run-whole run-of
     loaded slots-of tick-of first-late first-left next-in pick sooner
 all-right = tt
 

@@ -1,7 +1,6 @@
 pub mod LengthLaws
 pub mod TestLaws
 pub mod PlacedLaws
-pub mod Turns
 pub mod CarriedLaws
 pub mod CarriedNext
 pub mod FaultLaws

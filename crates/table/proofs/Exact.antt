@@ -11,6 +11,7 @@ use Rattle.laws.proofs.ReaderExact.{Said, said, faultless-read, faulty-read}
 use Rattle.table.specs.declared.rules.SoFar.{SoFar}
 use Rattle.table.specs.declared.reader.Shape.{Shape}
 use Rattle.table.specs.declared.reader.Refusal.{Refusal}
+use Rattle.table.specs.declared.reader.Reading.{Reading}
 use Rattle.table.specs.declared.reader.Reading.the-variants.{Table, Refused}
 use Rattle.table.specs.Bytes.{size, records}
 use Rattle.table.specs.Reader.{most-records, reader-of, reading-in, reading-of}
@@ -23,15 +24,23 @@ use Rattle.table.proofs.KnownLaws.{before-it}
 use Rattle.table.proofs.Rising.{few-tasks}
 use Rattle.table.proofs.ReadLaws.{rules-of}
 
+-- what a reading says of the bytes
+abbrev Told : List ℕ → Reading → Type 0
+Told s (Table t) = WellFormed s
+Told s (Refused r) = Refused-with s (r .number) (r .index)
+
+told : (s : List ℕ) → Told s (reading-of s)
+unfolding reading-of
+told s = from (read (reader-of s)) (said (rules-of s))
+  where
+    from : (x : Read SoFar) → Said (rules-of s) x → Told s (reading-in (records s) x)
+    from (whole b) faultless = record { long = faultless .long; good = faultless .good }
+    from (stopped number index) faulty = faulty
+
 -- ---- a table is read exactly where the bytes are well formed
 
 pub read-good : (s : List ℕ) (t : Shape) → reading-of s ≡ Table t → WellFormed s
-unfolding reading-of
-read-good s t is = from (read (reader-of s)) (said (rules-of s)) is
-  where
-    from : (x : Read SoFar) → Said (rules-of s) x → reading-in (records s) x ≡ Table t → WellFormed s
-    from (whole b) faultless same = record { long = faultless .long; good = faultless .good }
-    from (stopped number index) faulty same = let z : _≡_ {A = ℕ} 0 1 = cc in absurd (omega arith)
+read-good s t is = rw is at (told s)
 
 pub good-read : (s : List ℕ) → WellFormed s →
     reading-of s ≡ Table (record { records = records s; tasks = table-of s .tasks })
@@ -42,14 +51,7 @@ good-read s well =
 -- ---- a refusal is given exactly where document 01 gives it
 
 pub read-refused : (s : List ℕ) (r : Refusal) → reading-of s ≡ Refused r → Refused-with s (r .number) (r .index)
-unfolding reading-of
-read-refused s r is = from (read (reader-of s)) (said (rules-of s)) is
-  where
-    from : (x : Read SoFar) → Said (rules-of s) x → reading-in (records s) x ≡ Refused r →
-        Refused-with s (r .number) (r .index)
-    from (whole b) faultless same = let z : _≡_ {A = ℕ} 0 1 = cc in absurd (omega arith)
-    from (stopped number index) faulty same =
-        let r-is : r ≡ record { number = number; index = index } = cc in rw r-is faulty
+read-refused s r is = rw is at (told s)
 
 pub refused-read : (s : List ℕ) (number index : ℕ) → Refused-with s number index →
     reading-of s ≡ Refused (record { number = number; index = index })

@@ -1,36 +1,39 @@
--- `requests::reader::check_list` meets its contract. The loop's invariant, `Checks-on`: before record i, checking on
+-- `requests::reader::check_list` meets its contract. The loop's invariant, `Reads-on`: before record i, reading on
 -- from there with what is carried from the records passed gives the whole answer. The measure is the records left.
 -- Assumes nothing.
 use Prim.Native.Nat.{_-_}
 use mathlib.Core.Path.{sym, _∙_}
 use borrow.Author.Needs.{needs}
+use Rattle.laws.proofs.ReaderLaws.{read-short, Reads-on, reads-start, reads-turn, reads-stopped, reads-whole}
 use Rattle.table.specs.TableOf.{table-of}
+use Rattle.requests.specs.Reader.{reader-of}
 use Rattle.requests.proofs.PlacedLaws.{fine-placed}
-use Rattle.requests.proofs.Turns.{Checks-on, check-short, checks-start, checks-turn, checks-refused, checks-done}
+use Rattle.requests.proofs.CheckLaws.{check-stopped, check-whole}
 use Rattle.requests.proofs.reader.check_list.Statement.{statement}
 use Rattle.requests.proofs.reader.check_list.Tie as tie
 
 abbrev Inv-loop : tie.InvT-loop
-Inv-loop s plan list len n b₀ i₀ b i = Checks-on (table-of s) list n i b
+Inv-loop s plan list len n b₀ i₀ b i = Reads-on (reader-of (table-of s) list) n i b
 
 abbrev μ-loop : tie.MeasureT-loop
 μ-loop s plan list len n b₀ i₀ b i = n - i
 
 returns : tie.Need-returns Inv-loop μ-loop
-returns c = sym (check-short _ _ (sym (c .before .is-bad-length .ensures) ∙ c .if1 .taken))
+returns c = check-stopped _ _ (read-short _ (sym (c .before .is-bad-length .ensures) ∙ c .if1 .taken))
 
 loop-holds : tie.Need-loop-holds Inv-loop μ-loop
-loop-holds c = checks-start _ _ (c .before .is-bad-length .ensures) (c .if1 .left)
+loop-holds c = reads-start _ (c .before .is-bad-length .ensures) (c .if1 .left)
 
 returns-2 : tie.Need-returns-2 Inv-loop μ-loop
 returns-2 c =
     let at-entry = c .before .before in
-    checks-refused
+    check-stopped _ _
+    (reads-stopped
     (at-entry .before .before .loop .inv)
     (search needs)
     (at-entry .entry-at .ensures)
     (c .before .fault .ensures)
-    (search needs)
+    (search needs))
 
 after-requires : tie.Need-after-requires Inv-loop μ-loop
 after-requires c κs =
@@ -41,7 +44,7 @@ loop-again : tie.Need-loop-again Inv-loop μ-loop
 loop-again c =
     let at-fault = c .before .before in
     let at-entry = at-fault .before in
-    checks-turn
+    reads-turn
     (at-entry .before .before .loop .inv)
     (search needs)
     (at-entry .entry-at .ensures)
@@ -50,7 +53,8 @@ loop-again c =
     (search needs)
 
 returns-3 : tie.Need-returns-3 Inv-loop μ-loop
-returns-3 c = checks-done (c .before .loop .inv) (search needs)
+returns-3 c =
+    let on = c .before .loop .inv in check-whole _ _ (reads-whole on (search needs)) (on .all)
 
 pub check-list-spec : {M : Type 1} → statement M
 check-list-spec =

@@ -13,12 +13,12 @@ use Rattle.laws.specs.Reader.{Reader, Read, whole, stopped, read, Bad-le
 use Rattle.laws.proofs.ReaderLaws.{read-short, Reads-on, reads-start, reads-turn, reads-stopped, reads-whole}
 use Rattle.laws.proofs.Tests.{Catches, kept, broken}
 
--- the rules, said of the records alone, and what is known before record i by which the reader tells them
+-- rules, said of the bytes alone, and what the reader has to know of the records passed to test them
 pub record Rules {S R : Type 0} (reader : Reader S R) : Type 1 where
-  pub Long : Type 0
-  pub Good : ℕ → Type 0
-  pub Breaks : ℕ → ℕ → Type 0
-  pub Known : ℕ → S → Type 0
+  pub Long : Type 0  -- the length is right
+  pub Good : ℕ → Type 0  -- a record breaks no rule
+  pub Breaks : ℕ → ℕ → Type 0  -- the first rule that a record breaks has this number
+  pub Known : ℕ → S → Type 0  -- what is known before record i
   pub long : Catches (reader .bad-length) Long
   pub start : Known 0 (reader .start)
   pub next : (i : ℕ) (b : S) → Known i b → Good i → Known (i + 1) (reader .after b (reader .at i))
@@ -34,21 +34,21 @@ module _ {S R : Type 0} {reader : Reader S R} (rules : Rules reader) where
       Bad-length (rules .Long) (reader .length-number) number index
       ⊎ Bad-record (rules .Long) (reader .count) (rules .Good) (rules .Breaks) number index
 
-  -- there is none, and b is known of all records
-  pub record Faultless (b : S) : Type 0 where
+  -- there is none
+  pub record Faultless : Type 0 where
     pub long : rules .Long
     pub good : (j : ℕ) → j < reader .count → rules .Good j
-    pub known : rules .Known (reader .count) b
 
   -- what an answer says
   abbrev pub Said : Read S → Type 0
-  Said (whole b) = Faultless b
+  Said (whole b) = Faultless
   Said (stopped number index) = Faulty number index
 
-  -- the reader comes to record i
+  -- ---- on to record i
+
   record Reached (i : ℕ) : Type 0 where
     pub b : S
-    pub reads : Reads-on reader (reader .count) i b
+    pub reads : Reads-on reader i b
     pub known : rules .Known i b
 
   reach-start : rules .Long → Reached 0
@@ -75,12 +75,13 @@ module _ {S R : Type 0} {reader : Reader S R} (rules : Rules reader) where
       let before = reach long i (omega arith) (λ j less. good j (omega arith)) in
       rw add-one at (reach-next before (omega arith) (good i (omega arith)))
 
+  -- ---- from the answer to the records
+
   said-from : rules .Long → (left : ℕ) {i : ℕ} → Reached i → i + left ≡ reader .count →
       ((j : ℕ) → j < i → rules .Good j) → Said (read reader)
   said-from long zero {i} at all good =
       let end : i ≡ reader .count = omega arith in
-      rw (reads-whole (at .reads) (omega arith))
-      (record { long = long; good = rw end at good; known = rw end at (at .known) })
+      rw (reads-whole (at .reads) (omega arith)) (record { long = long; good = rw end at good })
   said-from long (suc left) {i} at all good =
       let more : i < reader .count = omega arith in
       elim (rules .either i (at .b) (at .known)) [
@@ -89,7 +90,6 @@ module _ {S R : Type 0} {reader : Reader S R} (rules : Rules reader) where
             (inr (record { long = long; within = more; before = good; breaks = breaks }))
       ]
 
-  -- from the answer to the records
   pub said : Said (read reader)
   said = which (reader .bad-length) refl
     where
@@ -101,15 +101,16 @@ module _ {S R : Type 0} {reader : Reader S R} (rules : Rules reader) where
           let long = rules .long .passed e in
           said-from long (reader .count) (reach-start long) (omega arith) (below-none (rules .Good))
 
-  -- from the records to the answer
+  -- ---- from the records to the answer
+
   pub record Read-whole : Type 0 where
     pub b : S
     pub known : rules .Known (reader .count) b
     pub is : read reader ≡ whole b
 
-  pub faultless-read : rules .Long → ((j : ℕ) → j < reader .count → rules .Good j) → Read-whole
-  faultless-read long good =
-      let end = reach long (reader .count) (le-refl (reader .count)) good in
+  pub faultless-read : Faultless → Read-whole
+  faultless-read fine =
+      let end = reach (fine .long) (reader .count) (le-refl (reader .count)) (fine .good) in
       record { b = end .b; known = end .known; is = reads-whole (end .reads) (le-refl (reader .count)) }
 
   pub faulty-read : (number index : ℕ) → Faulty number index → read reader ≡ stopped number index

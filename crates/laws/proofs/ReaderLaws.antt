@@ -3,7 +3,6 @@
 use Prim.Native.Nat.{ℕ, zero, suc, _+_, _-_, _≤_, _<_}
 use mathlib.Core.Path.{_≡_, refl, sym, ap, _∙_}
 use mathlib.Core.Bool.{Bool, true, false}
-use native.Mathlib.Omega.{arith}
 use native.Mathlib.Nat.{sub-zero}
 use Rattle.laws.specs.Reader.{Reader, whole, stopped, read-on, read}
 use Rattle.laws.proofs.Countdown.{one-less, none-left}
@@ -37,34 +36,29 @@ module _ {S R : Type 0} (reader : Reader S R) where
 
 -- ---- the loop
 
--- before record i of n, with b known of the records passed
-pub record Reads-on {S R : Type 0} (reader : Reader S R) (n i : ℕ) (b : S) : Type 0 where
-  pub all : n ≡ reader .count
-  pub within : i ≤ n
-  pub rest : read reader ≡ read-on reader (n - i) i b
+-- before record i, with b known of the records passed
+pub record Reads-on {S R : Type 0} (reader : Reader S R) (i : ℕ) (b : S) : Type 0 where
+  pub rest : read reader ≡ read-on reader (reader .count - i) i b
 
 pub reads-start : {S R : Type 0} (reader : Reader S R) {bad : Bool} → bad ≡ reader .bad-length → bad ≡ false →
-    Reads-on reader (reader .count) 0 (reader .start)
-reads-start reader is fine =
-    record { all = refl; within = omega arith; rest = read-long reader (sym is ∙ fine) ∙ rw sub-zero }
+    Reads-on reader 0 (reader .start)
+reads-start reader is fine = record { rest = read-long reader (sym is ∙ fine) ∙ rw sub-zero }
 
-module _ {S R : Type 0} {reader : Reader S R} {n i : ℕ} {b : S} (so-far : Reads-on reader n i b) where
-  module _ {x : R} {fault : ℕ} (more : i < n) (here : x ≡ reader .at i) (fault-is : fault ≡ reader .fault b x) where
+module _ {S R : Type 0} {reader : Reader S R} {i : ℕ} {b : S} (so-far : Reads-on reader i b) where
+  module _ {x : R} {fault : ℕ} (more : i < reader .count) (here : x ≡ reader .at i)
+      (fault-is : fault ≡ reader .fault b x) where
     fault-here : reader .fault b (reader .at i) ≡ fault
     fault-here = sym (fault-is ∙ ap (reader .fault b) here)
 
-    pub reads-turn : {after : S} → fault ≡ 0 → after ≡ reader .after b x → Reads-on reader n (i + 1) after
+    pub reads-turn : {after : S} → fault ≡ 0 → after ≡ reader .after b x → Reads-on reader (i + 1) after
     reads-turn none after-is =
-        record {
-          all = so-far .all;
-          within = omega arith;
-          rest = so-far .rest
-              ∙ rw (one-less n i more, after-is, here) (read-passed reader i b (n - (i + 1)) (fault-here ∙ none));
-        }
+        let passed = read-passed reader i b (reader .count - (i + 1)) (fault-here ∙ none) in
+        record { rest = so-far .rest ∙ rw (one-less (reader .count) i more, after-is, here) passed }
 
     pub reads-stopped : (fault ≡ 0 → ⊥) → read reader ≡ stopped fault i
     reads-stopped some =
-        so-far .rest ∙ rw (one-less n i more) (read-stopped reader i b (n - (i + 1)) fault fault-here some)
+        let stopped-here = read-stopped reader i b (reader .count - (i + 1)) fault fault-here some in
+        so-far .rest ∙ rw (one-less (reader .count) i more) stopped-here
 
-  pub reads-whole : n ≤ i → read reader ≡ whole b
-  reads-whole done = so-far .rest ∙ rw (none-left n i done) (read-none reader i b)
+  pub reads-whole : reader .count ≤ i → read reader ≡ whole b
+  reads-whole done = so-far .rest ∙ rw (none-left (reader .count) i done) (read-none reader i b)

@@ -10,12 +10,12 @@ use mathlib.Core.Bool.{Bool, cond}
 -- how records of the type R are read, where a value of the type S is what is known of those passed
 pub record Reader (S R : Type 0) : Type 0 where
   pub bad-length : Bool
-  pub length-number : ℕ -- the number of a bad length
+  pub length-number : ℕ  -- the number of a bad length
   pub count : ℕ
   pub at : ℕ → R
   pub start : S
-  pub fault : S → R → ℕ -- the number of the first rule that the record breaks, or 0
-  pub after : S → R → S -- what is known after a good record
+  pub fault : S → R → ℕ  -- the number of the first rule that the record breaks, or 0
+  pub after : S → R → S  -- what is known after a good record
 
 -- what is known after the last record, or the number of the first fault and the record that has it
 pub data Read (S : Type 0) : Type 0 where

@@ -38,7 +38,7 @@ module _ (table : Table) (few : table .tasks ≤ 16) (s : List ℕ) where
 
   pub good-check : Accepted table s → check-of table s ≡ Legal (records s)
   good-check accepted =
-      let end = faultless-read (rules-of table few s) (accepted .long) (accepted .good) in
+      let end = faultless-read (rules-of table few s) (record { long = accepted .long; good = accepted .good }) in
       sym (check-whole table s (end .is) refl)
 
   pub check-count : (n : ℕ) → check-of table s ≡ Legal n → n ≡ records s

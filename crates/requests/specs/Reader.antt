@@ -25,6 +25,7 @@ most-requests = 128
 abbrev pub bad-length : ℕ → Bool
 bad-length n = ltb (most-requests * size) n || not (eqb (n % size) 0)
 
+-- how a list is read: rule 10 by its length, then the rules 10 and 11 record by record
 abbrev pub reader-of : Table → List ℕ → Reader SoFar Entry
 reader-of table s =
     record {
@@ -37,7 +38,7 @@ reader-of table s =
       after = after-of table;
     }
 
--- where n records were read, a legal list of them
+-- the answer, for n records
 abbrev pub checked-in : ℕ → Read SoFar → Checked
 checked-in n (whole b) = Legal n
 checked-in n (stopped number index) = Refused (record { number = number; index = index })

@@ -19,10 +19,9 @@ use Rattle.table.specs.WellFormed.{WellFormed}
 use Rattle.table.specs.Refusals.{Refused-with}
 use Rattle.table.specs.TableOf.{table-of}
 use Rattle.table.proofs.LengthLaws.{right-some, right-few}
-use Rattle.table.proofs.Turns.{read-stopped, read-whole}
 use Rattle.table.proofs.KnownLaws.{before-it}
 use Rattle.table.proofs.Rising.{few-tasks}
-use Rattle.table.proofs.ReadLaws.{rules-of}
+use Rattle.table.proofs.ReadLaws.{reading-stopped, reading-whole, rules-of}
 
 -- what a reading says of the bytes
 abbrev Told : List ℕ → Reading → Type 0
@@ -45,8 +44,8 @@ read-good s t is = rw is at (told s)
 pub good-read : (s : List ℕ) → WellFormed s →
     reading-of s ≡ Table (record { records = records s; tasks = table-of s .tasks })
 good-read s well =
-    let end = faultless-read (rules-of s) (well .long) (well .good) in
-    sym (read-whole s (end .is) refl (before-it (end .known) (right-some (well .long)) .task))
+    let end = faultless-read (rules-of s) (record { long = well .long; good = well .good }) in
+    sym (reading-whole s (end .is) refl (before-it (end .known) (right-some (well .long)) .task))
 
 -- ---- a refusal is given exactly where document 01 gives it
 
@@ -55,7 +54,7 @@ read-refused s r is = rw is at (told s)
 
 pub refused-read : (s : List ℕ) (number index : ℕ) → Refused-with s number index →
     reading-of s ≡ Refused (record { number = number; index = index })
-refused-read s number index bad = sym (read-stopped s (faulty-read (rules-of s) number index bad))
+refused-read s number index bad = sym (reading-stopped s (faulty-read (rules-of s) number index bad))
 
 -- ---- what a caller that has read a table knows
 

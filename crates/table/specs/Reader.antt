@@ -23,6 +23,7 @@ most-records = 64
 abbrev pub bad-length : ℕ → Bool
 bad-length n = (eqb n 0 || ltb (most-records * size) n) || not (eqb (n % size) 0)
 
+-- how a table is read: rule 1 by its length, then the rules 2 to 6 record by record
 abbrev pub reader-of : List ℕ → Reader SoFar Record
 reader-of s =
     record {
@@ -35,7 +36,7 @@ reader-of s =
       after = after-of;
     }
 
--- where n records were read, a table of them
+-- the answer, for n records
 abbrev pub reading-in : ℕ → Read SoFar → Reading
 reading-in n (whole b) = Table (record { records = n; tasks = b .tasks })
 reading-in n (stopped number index) = Refused (record { number = number; index = index })

@@ -13,7 +13,7 @@ use Rattle.requests.proofs.reader.check_list.Statement.{statement}
 use Rattle.requests.proofs.reader.check_list.Tie as tie
 
 abbrev Inv-loop : tie.InvT-loop
-Inv-loop s plan list len n b₀ i₀ b i = Reads-on (reader-of (table-of s) list) n i b
+Inv-loop s plan list len n b₀ i₀ b i = Reads-on (reader-of (table-of s) list) i b
 
 abbrev μ-loop : tie.MeasureT-loop
 μ-loop s plan list len n b₀ i₀ b i = n - i
@@ -53,8 +53,7 @@ loop-again c =
     (search needs)
 
 returns-3 : tie.Need-returns-3 Inv-loop μ-loop
-returns-3 c =
-    let on = c .before .loop .inv in check-whole _ _ (reads-whole on (search needs)) (on .all)
+returns-3 c = check-whole _ _ (reads-whole (c .before .loop .inv) (search needs)) (search needs)
 
 pub check-list-spec : {M : Type 1} → statement M
 check-list-spec =

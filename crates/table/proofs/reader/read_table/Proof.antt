@@ -1,22 +1,24 @@
 -- `table::reader::read_table` meets its contract. The loop's invariant, `Reads-few`: before record i, reading on from
--- there with what is known of the records passed gives the whole reading. The measure is the records left.
+-- there with what is known of the records passed gives the whole reading, and the task has at most i frames so far. The
+-- measure is the records left.
 -- Assumes nothing.
 use Prim.Native.Nat.{_-_}
 use mathlib.Core.Path.{sym, _∙_}
 use borrow.Author.Needs.{needs}
 use Rattle.laws.proofs.ReaderLaws.{read-short, reads-stopped, reads-whole}
-use Rattle.table.proofs.Turns.{read-stopped, read-whole, Reads-few, few-start, few-turn}
+use Rattle.table.proofs.Turns.{Reads-few, few-start, few-turn}
+use Rattle.table.proofs.ReadLaws.{reading-stopped, reading-whole}
 use Rattle.table.proofs.reader.read_table.Statement.{statement}
 use Rattle.table.proofs.reader.read_table.Tie as tie
 
 abbrev Inv-loop : tie.InvT-loop
-Inv-loop s len n b₀ i₀ b i = Reads-few s n i b
+Inv-loop s len n b₀ i₀ b i = Reads-few s i b
 
 abbrev μ-loop : tie.MeasureT-loop
 μ-loop s len n b₀ i₀ b i = n - i
 
 returns : tie.Need-returns Inv-loop μ-loop
-returns c = read-stopped _ (read-short _ (sym (c .before .is-bad-length .ensures) ∙ c .if1 .taken))
+returns c = reading-stopped _ (read-short _ (sym (c .before .is-bad-length .ensures) ∙ c .if1 .taken))
 
 loop-holds : tie.Need-loop-holds Inv-loop μ-loop
 loop-holds c = few-start _ (c .before .is-bad-length .ensures) (c .if1 .left)
@@ -24,7 +26,7 @@ loop-holds c = few-start _ (c .before .is-bad-length .ensures) (c .if1 .left)
 returns-2 : tie.Need-returns-2 Inv-loop μ-loop
 returns-2 c =
     let at-record = c .before .before in
-    read-stopped _
+    reading-stopped _
     (reads-stopped
     (at-record .before .before .loop .inv .on)
     (search needs)
@@ -47,7 +49,7 @@ loop-again c =
 returns-3 : tie.Need-returns-3 Inv-loop μ-loop
 returns-3 c =
     let on = c .before .before .loop .inv .on in
-    read-whole _ (reads-whole on (search needs)) (search needs) (search needs)
+    reading-whole _ (reads-whole on (search needs)) (search needs) (search needs)
 
 pub read-table-spec : {M : Type 1} → statement M
 read-table-spec =

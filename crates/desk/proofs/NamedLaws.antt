@@ -10,7 +10,7 @@ use lib.Dec.{T, ltb, ltb→lt}
 use lib.ListN.{length, getD}
 use Rattle.laws.specs.Sums.{sum, greatest, tabulate}
 use Rattle.laws.specs.Search.{least-from, first-least}
-use Rattle.laws.specs.Reader.{read-on, read}
+use Rattle.laws.specs.Reader.{read-on, read-all}
 use Rattle.laws.proofs.Every.{both-left, both-right, every, every-at}
 use Rattle.model.specs.Demand.{frame, offset, counted, lowest, all-demands, all-work}
 use Rattle.model.specs.Verdict.{horizon, closes, overloads, starts, overloaded-at, fits-at}
@@ -76,7 +76,7 @@ right-is row h =
 
 all-right : T (every right named)
 unfolding named A B right by-walk quick is-byte every same-said same-answer same-verdict same-list same-int
-    demand-asked reading-of read read-on record-of records-before records-of task-of horizon walk overloads closes
+    demand-asked reading-of read-all read-on record-of records-before records-of task-of horizon walk overloads closes
     overloaded-at fits-at starts lowest all-demands all-work counted offset frame sum greatest tabulate
     least-from first-least
     B-list same-replay replay-asked check-of entry-of last-arrival last-tick replay-of run-whole run-of

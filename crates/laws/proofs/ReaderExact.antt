@@ -1,5 +1,5 @@
--- Records read one after the other: the reading is exact, both ways, where what is known of the records passed tells the
--- good from those that break a rule.
+-- Records read one after the other: the reading is exact, both ways, where what is known of the records passed tells
+-- the good from those that break a rule.
 -- Assumes nothing.
 use Prim.Native.Nat.{ℕ, zero, suc, _+_, _≤_, _<_}
 use mathlib.Core.Path.{_≡_, refl, sym}
@@ -9,7 +9,7 @@ use native.Mathlib.Omega.{arith}
 use native.Mathlib.Nat.{le-refl}
 use native.Mathlib.Numerals.{add-one}
 use borrow.Author.Count.{below-none, below-more}
-use Rattle.laws.specs.Reader.{Reader, Read, whole, stopped, read, Bad-length, Bad-record}
+use Rattle.laws.specs.Reader.{Reader, Read, whole, stopped, read-all, Bad-length, Bad-record}
 use Rattle.laws.proofs.ReaderLaws.{read-short, Reads-on, reads-start, reads-turn, reads-stopped, reads-whole}
 use Rattle.laws.proofs.Tests.{Catches, kept, broken}
 
@@ -24,7 +24,7 @@ pub record Rules {S R : Type 0} (reader : Reader S R) : Type 1 where
   pub next : (i : ℕ) (b : S) → Known i b → Good i → Known (i + 1) (reader .after b (reader .at i))
   pub passes : (i : ℕ) (b : S) → Known i b → Good i → reader .fault b (reader .at i) ≡ 0
   pub stops : (i : ℕ) (b : S) (number : ℕ) → Known i b → Breaks i number → reader .fault b (reader .at i) ≡ number
-  pub some : (i number : ℕ) → Breaks i number → 1 ≤ number
+  pub numbered : (i : ℕ) → Breaks i 0 → ⊥  -- for 0 is no fault
   pub either : (i : ℕ) (b : S) → Known i b → Good i ⊎ Breaks i (reader .fault b (reader .at i))
 
 module _ {S R : Type 0} {reader : Reader S R} (rules : Rules reader) where
@@ -64,10 +64,10 @@ module _ {S R : Type 0} {reader : Reader S R} (rules : Rules reader) where
           known = rules .next i (at .b) (at .known) good;
         }
 
-    reach-stopped : {number : ℕ} → i < reader .count → rules .Breaks i number → read reader ≡ stopped number i
+    reach-stopped : {number : ℕ} → i < reader .count → rules .Breaks i number → read-all reader ≡ stopped number i
     reach-stopped {number} more breaks =
         reads-stopped (at .reads) more refl (sym (rules .stops i (at .b) number (at .known) breaks))
-        (λ none. omega (arith, rules .some i number breaks))
+        (λ none. rules .numbered i (rw none at breaks))
 
   reach : rules .Long → (i : ℕ) → i ≤ reader .count → ((j : ℕ) → j < i → rules .Good j) → Reached i
   reach long zero within good = reach-start long
@@ -78,22 +78,24 @@ module _ {S R : Type 0} {reader : Reader S R} (rules : Rules reader) where
   -- ---- from the answer to the records
 
   said-from : rules .Long → (left : ℕ) {i : ℕ} → Reached i → i + left ≡ reader .count →
-      ((j : ℕ) → j < i → rules .Good j) → Said (read reader)
+      ((j : ℕ) → j < i → rules .Good j) → Said (read-all reader)
   said-from long zero {i} at all good =
       let end : i ≡ reader .count = omega arith in
       rw (reads-whole (at .reads) (omega arith)) (record { long = long; good = rw end at good })
   said-from long (suc left) {i} at all good =
       let more : i < reader .count = omega arith in
       elim (rules .either i (at .b) (at .known)) [
-        | inl here ↦ said-from long left (reach-next at more here) (omega arith) (below-more (rules .Good) i good here)
-        | inr breaks ↦ rw (reach-stopped at more breaks)
+        | inl here ↦
+            said-from long left (reach-next at more here) (omega arith) (below-more (rules .Good) i good here)
+        | inr breaks ↦
+            rw (reach-stopped at more breaks)
             (inr (record { long = long; within = more; before = good; breaks = breaks }))
       ]
 
-  pub said : Said (read reader)
+  pub said : Said (read-all reader)
   said = which (reader .bad-length) refl
     where
-      which : (bad : Bool) → reader .bad-length ≡ bad → Said (read reader)
+      which : (bad : Bool) → reader .bad-length ≡ bad → Said (read-all reader)
       which true e =
           rw (read-short reader e)
           (inl (record { number-is = refl; index-is = refl; wrong = rules .long .caught e }))
@@ -106,14 +108,14 @@ module _ {S R : Type 0} {reader : Reader S R} (rules : Rules reader) where
   pub record Read-whole : Type 0 where
     pub b : S
     pub known : rules .Known (reader .count) b
-    pub is : read reader ≡ whole b
+    pub is : read-all reader ≡ whole b
 
   pub faultless-read : Faultless → Read-whole
   faultless-read fine =
       let end = reach (fine .long) (reader .count) (le-refl (reader .count)) (fine .good) in
       record { b = end .b; known = end .known; is = reads-whole (end .reads) (le-refl (reader .count)) }
 
-  pub faulty-read : (number index : ℕ) → Faulty number index → read reader ≡ stopped number index
+  pub faulty-read : (number index : ℕ) → Faulty number index → read-all reader ≡ stopped number index
   faulty-read number index (inl bad) =
       rw (bad .number-is, bad .index-is) (read-short reader (broken (rules .long) (bad .wrong)))
   faulty-read number index (inr bad) =

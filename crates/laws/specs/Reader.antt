@@ -22,19 +22,16 @@ pub data Read (S : Type 0) : Type 0 where
   whole : S → Read S
   stopped : (number index : ℕ) → Read S
 
--- `number` at record i; where the number is 0, what follows
-abbrev pub stop-at : {S : Type 0} → ℕ → ℕ → Read S → Read S
-stop-at zero i rest = rest
-stop-at (suc number) i rest = stopped (suc number) i
-
 -- `left` records are left, the next is record i, and b is known of those before it
 unfoldable pub read-on : {S R : Type 0} → Reader S R → ℕ → ℕ → S → Read S
 read-on reader zero i b = whole b
 read-on reader (suc left) i b =
-    let x = reader .at i in stop-at (reader .fault b x) i (read-on reader left (i + 1) (reader .after b x))
+    let x = reader .at i in
+    elim (reader .fault b x)
+    [ zero ↦ read-on reader left (i + 1) (reader .after b x) | suc number ↦ stopped (suc number) i ]
 
-unfoldable pub read : {S R : Type 0} → Reader S R → Read S
-read reader =
+unfoldable pub read-all : {S R : Type 0} → Reader S R → Read S
+read-all reader =
     cond (reader .bad-length) (stopped (reader .length-number) 0)
     (read-on reader (reader .count) 0 (reader .start))
 

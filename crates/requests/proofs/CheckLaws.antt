@@ -1,12 +1,12 @@
--- The answer at each end of the reading; and the rules 10 and 11, with what is carried from the records passed, are rules
--- by which a reader is exact.
+-- The answer at each end of the reading; and the rules 10 and 11, with what is carried from the records passed, are
+-- rules by which a reader is exact.
 -- Assumes nothing.
 use Prim.Native.Nat.{ℕ, _≤_}
 use mathlib.Core.Path.{_≡_, sym}
 use mathlib.Core.List.{List}
 use lib.ListN.{length}
 use native.Mathlib.Omega.{arith}
-use Rattle.laws.specs.Reader.{whole, stopped, read}
+use Rattle.laws.specs.Reader.{whole, stopped, read-all}
 use Rattle.laws.proofs.ReaderExact.{Rules}
 use Rattle.model.specs.Task.{Table}
 use Rattle.table.specs.Bytes.{records}
@@ -14,7 +14,7 @@ use Rattle.requests.specs.declared.rules.SoFar.{SoFar}
 use Rattle.requests.specs.declared.reader.Checked.the-variants.{Legal, Refused}
 use Rattle.requests.specs.Reader.{reader-of, check-of}
 use Rattle.requests.specs.Accepted.{Length-right, Good}
-use Rattle.requests.specs.Refusals.{Breaks, breaks-10, breaks-11}
+use Rattle.requests.specs.Refusals.{Breaks}
 use Rattle.requests.proofs.LengthLaws.{catches-length}
 use Rattle.requests.proofs.CarriedLaws.{Carried, carried-start}
 use Rattle.requests.proofs.CarriedNext.{carried-next}
@@ -24,21 +24,17 @@ use Rattle.requests.proofs.RuleLaws.{rules-caught}
 -- ---- the answer
 
 module _ (table : Table) (s : List ℕ) where
-  pub check-stopped : {number index : ℕ} → read (reader-of table s) ≡ stopped number index →
+  pub check-stopped : {number index : ℕ} → read-all (reader-of table s) ≡ stopped number index →
       Refused (record { number = number; index = index }) ≡ check-of table s
   unfolding check-of
   check-stopped is = sym (rw is)
 
-  pub check-whole : {b : SoFar} → read (reader-of table s) ≡ whole b → {n : ℕ} → n ≡ records s →
+  pub check-whole : {b : SoFar} → read-all (reader-of table s) ≡ whole b → {n : ℕ} → n ≡ records s →
       Legal n ≡ check-of table s
   unfolding check-of
   check-whole is all = sym (rw (is, all))
 
 -- ---- the rules
-
-pub breaks-some : {table : Table} {s : List ℕ} {j number : ℕ} → Breaks table s j number → 1 ≤ number
-breaks-some (breaks-10 fails) = omega arith
-breaks-some (breaks-11 place fails) = omega arith
 
 abbrev pub rules-of : (table : Table) → table .tasks ≤ 16 → (s : List ℕ) → Rules (reader-of table s)
 rules-of table few s =
@@ -52,6 +48,6 @@ rules-of table few s =
       next = λ i b carried good. carried-next carried (omega (arith, few, good .in-place .known .task));
       passes = λ i b carried good. good-first (rules-caught carried) good;
       stops = λ i b number carried breaks. breaks-first (rules-caught carried) breaks;
-      some = λ i number breaks. breaks-some breaks;
+      numbered = λ i breaks. elim breaks [ ];
       either = λ i b carried. good-or-breaks (rules-caught carried);
     }

@@ -4,7 +4,7 @@
 use Prim.Native.Nat.{ℕ, _≤_}
 use mathlib.Core.Path.{_≡_, refl, sym}
 use mathlib.Core.List.{List}
-use Rattle.laws.specs.Reader.{Read, whole, stopped, read}
+use Rattle.laws.specs.Reader.{Read, whole, stopped, read-all}
 use Rattle.laws.proofs.ReaderExact.{Said, said, faultless-read, faulty-read}
 use Rattle.model.specs.Task.{Table}
 use Rattle.table.specs.Bytes.{records}
@@ -25,7 +25,7 @@ Told table s (Refused r) = Refused-with table s (r .number) (r .index)
 module _ (table : Table) (few : table .tasks ≤ 16) (s : List ℕ) where
   told : Told table s (check-of table s)
   unfolding check-of
-  told = from (read (reader-of table s)) (said (rules-of table few s))
+  told = from (read-all (reader-of table s)) (said (rules-of table few s))
     where
       from : (x : Read SoFar) → Said (rules-of table few s) x → Told table s (checked-in (records s) x)
       from (whole b) faultless = record { long = faultless .long; good = faultless .good }

@@ -6,7 +6,7 @@ use mathlib.Core.List.{List}
 use mathlib.Core.Bool.{Bool, not, _||_}
 use lib.ListN.{length}
 use lib.Dec.{ltb, eqb}
-use Rattle.laws.specs.Reader.{Reader, Read, whole, stopped, read}
+use Rattle.laws.specs.Reader.{Reader, Read, whole, stopped, read-all}
 use Rattle.model.specs.Task.{Table}
 use Rattle.table.specs.Bytes.{size, records}
 use Rattle.table.specs.declared.reader.Refusal.{Refusal}
@@ -44,7 +44,7 @@ checked-in n (whole b) = Legal n
 checked-in n (stopped number index) = Refused (record { number = number; index = index })
 
 unfoldable pub check-of : Table → List ℕ → Checked
-check-of table s = checked-in (records s) (read (reader-of table s))
+check-of table s = checked-in (records s) (read-all (reader-of table s))
 
 -- the refusal that a check carries
 abbrev pub refusal-in : Checked → Refusal

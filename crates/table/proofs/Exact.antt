@@ -6,7 +6,7 @@ use mathlib.Core.Path.{_≡_, refl, sym}
 use mathlib.Core.List.{List}
 use lib.ListN.{length}
 use native.Mathlib.Omega.{arith}
-use Rattle.laws.specs.Reader.{Read, whole, stopped, read}
+use Rattle.laws.specs.Reader.{Read, whole, stopped, read-all}
 use Rattle.laws.proofs.ReaderExact.{Said, said, faultless-read, faulty-read}
 use Rattle.table.specs.declared.rules.SoFar.{SoFar}
 use Rattle.table.specs.declared.reader.Shape.{Shape}
@@ -30,7 +30,7 @@ Told s (Refused r) = Refused-with s (r .number) (r .index)
 
 told : (s : List ℕ) → Told s (reading-of s)
 unfolding reading-of
-told s = from (read (reader-of s)) (said (rules-of s))
+told s = from (read-all (reader-of s)) (said (rules-of s))
   where
     from : (x : Read SoFar) → Said (rules-of s) x → Told s (reading-in (records s) x)
     from (whole b) faultless = record { long = faultless .long; good = faultless .good }

@@ -6,7 +6,7 @@ use mathlib.Core.List.{List}
 use mathlib.Core.Bool.{Bool, not, _||_}
 use lib.ListN.{length}
 use lib.Dec.{ltb, eqb}
-use Rattle.laws.specs.Reader.{Reader, Read, whole, stopped, read}
+use Rattle.laws.specs.Reader.{Reader, Read, whole, stopped, read-all}
 use Rattle.table.specs.declared.record.Record.{Record}
 use Rattle.table.specs.declared.rules.SoFar.{SoFar}
 use Rattle.table.specs.declared.reader.Refusal.{Refusal}
@@ -42,7 +42,7 @@ reading-in n (whole b) = Table (record { records = n; tasks = b .tasks })
 reading-in n (stopped number index) = Refused (record { number = number; index = index })
 
 unfoldable pub reading-of : List ℕ → Reading
-reading-of s = reading-in (records s) (read (reader-of s))
+reading-of s = reading-in (records s) (read-all (reader-of s))
 
 -- the refusal that a reading carries
 abbrev pub refusal-in : Reading → Refusal

@@ -5,8 +5,8 @@ use mathlib.Core.Path.{_≡_, refl}
 use mathlib.Core.Logic.{_⊎_, inl, inr}
 use Prim.Native.Nat.{ℕ, suc, _≤_, _<_}
 use native.Mathlib.Omega.{arith}
-use lib.Dec.{ltb, eqb}
-use borrow.Author.Tests.{ltb-true, ltb-false, eqb-true, eqb-false}
+use lib.Dec.{ltb}
+use borrow.Author.Tests.{ltb-true, ltb-false}
 
 pub lt-or-le : (a b : ℕ) → (a < b) ⊎ (b ≤ a)
 lt-or-le a b = which (ltb a b) refl
@@ -18,13 +18,6 @@ lt-or-le a b = which (ltb a b) refl
 -- below suc b: below b, or b itself
 pub lt-or-last : (a b : ℕ) → a < suc b → (a < b) ⊎ (a ≡ b)
 lt-or-last a b h = elim (lt-or-le a b) [ inl less ↦ inl less | inr more ↦ inr (omega arith) ]
-
-pub eq-or-not : (a b : ℕ) → (a ≡ b) ⊎ (a ≡ b → ⊥)
-eq-or-not a b = which (eqb a b) refl
-  where
-    which : (t : Bool) → eqb a b ≡ t → (a ≡ b) ⊎ (a ≡ b → ⊥)
-    which true e = inl (eqb-true a b e)
-    which false e = inr (eqb-false a b e)
 
 -- neither of two numbers is the lower
 pub neither-lower : (a b : ℕ) → (a < b → ⊥) → (b < a → ⊥) → a ≡ b

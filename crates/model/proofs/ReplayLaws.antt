@@ -19,7 +19,8 @@ module _ (jobs : Jobs) (before : Order) where
     where
       same-tick : t ≡ u
       same-tick =
-          neither-lower t u (λ less. other .first t i less (one .misses .late)) (λ more. one .first u j more (other .misses .late))
+          neither-lower t u (λ less. other .first t i less (one .misses .late))
+          (λ more. one .first u j more (other .misses .late))
 
       same-job : i ≡ j
       same-job =

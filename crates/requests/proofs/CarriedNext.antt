@@ -6,9 +6,10 @@ use mathlib.Core.Logic.{inl, inr}
 use mathlib.Core.List.{List}
 use lib.ListN.{getD, length-set}
 use lib.Seq.{getD-set-same, getD-set-other}
+use native.Mathlib.Decide.{ℕ-discrete}
 use native.Mathlib.Numerals.{add-one}
 use native.Mathlib.Omega.{arith}
-use Rattle.laws.proofs.Cases.{lt-or-last, eq-or-not}
+use Rattle.laws.proofs.Cases.{lt-or-last}
 use Rattle.model.specs.Task.{Table}
 use Rattle.requests.specs.declared.rules.SoFar.{SoFar}
 use Rattle.requests.specs.Entry.{entry-of}
@@ -46,13 +47,13 @@ module _ {table : Table} {s : List ℕ} {i : ℕ} {b : SoFar} (carried : Carried
       let after = after-of table b (entry-of s i) in
       Of-task table s (i + 1) k (getD (after .next) k 0) (getD (after .from) k 0)
   of-task-next low k inside =
-      elim (eq-or-not k (entry-of s i .task)) [
-        | inl here ↦
+      elim (ℕ-discrete k (entry-of s i .task)) [
+        | yes here ↦
             rw here
             (seen i (newest s i)
             (getD-set-same (b .next) (entry-of s i .task) _ 0 (omega (arith, carried .next-long)))
             (getD-set-same (b .from) (entry-of s i .task) _ 0 (omega (arith, carried .from-long))))
-        | inr other ↦
+        | no other ↦
             rw (getD-set-other (b .next) (entry-of s i .task) k _ 0 other)
             (rw (getD-set-other (b .from) (entry-of s i .task) k _ 0 other)
             (stays s i k other (carried .of-task k inside)))

@@ -2,19 +2,17 @@
 // A line is NAME QUESTION NUMBERS TABLE, and LIST where the question has one: bytes in hex, or - for none. Words stand
 // apart by one or more spaces. Lines with no word, and lines whose first word begins with #, are passed over. A line
 // that cannot be read is said and stops nothing.
-mod question;
 mod say;
-mod words;
 
 use libc::STDERR_FILENO;
-use question::Case;
-use question::Kind;
-use question::Parsed;
+use lines::question::Case;
+use lines::question::Kind;
+use lines::question::Parsed;
+use lines::words::Lent;
 use text::Sort;
-use words::Lent;
 ghost use Prim.Native.Nat.{_≤_};
 ghost use lib.ListN.{length};
-ghost use Rattle.numbers.specs.Case.{lent-size, table-size, place-after};
+ghost use Rattle.lines.specs.Case.{lent-size, table-size, place-after};
 
 // Asks the desk, and says what it answers.
 fn answer(kind: Kind, first: u64, second: u64, table: &[u8], list: &[u8]) {
@@ -57,7 +55,7 @@ fn answer_list(number: u64, line: &[u8], name: &[u8], case: Case, table: &[u8])
     let mut space = [0u8; 2048];
     let list: &mut [u8] = &mut space;
     let kind = case.kind;
-    let lent = words::last_at(question::has_list(kind), line, case.next, list);
+    let lent = lines::words::last_at(lines::question::has_list(kind), line, case.next, list);
     answer_lent(number, name, case, table, list, lent);
 }
 
@@ -82,7 +80,7 @@ fn answer_line(line: &[u8], number: u64) {
     }
     let mut space = [0u8; 2048];
     let table: &mut [u8] = &mut space;
-    let parsed = question::read_case(line, to, table);
+    let parsed = lines::question::read_case(line, to, table);
     answer_parsed(number, line, &line[from..to], parsed, table);
 }
 

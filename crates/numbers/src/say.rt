@@ -1,8 +1,6 @@
 // The desk's answers, and what is wrong with a line, in words on standard output.
 ghost use mathlib.Core.Path.{_≡_};
 ghost use lib.IntN.{natAbs};
-use crate::words::Problem;
-use crate::words::What;
 use bench::replay::Replayed;
 use desk::Amount;
 use desk::Ending;
@@ -11,6 +9,8 @@ use desk::Judgement;
 use desk::Spare;
 use desk::Window;
 use libc::STDOUT_FILENO;
+use lines::words::Problem;
+use lines::words::What;
 use requests::reader::Checked;
 use table::reader::Reading;
 use table::reader::Refusal;

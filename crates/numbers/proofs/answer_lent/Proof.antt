@@ -2,7 +2,7 @@
 -- Assumes nothing.
 use mathlib.Core.Path.{ap}
 use native.Mathlib.Omega.{arith}
-use Rattle.numbers.specs.Case.{lent-size}
+use Rattle.lines.specs.Case.{lent-size}
 use borrow.Author.Needs.{needs}
 use Rattle.numbers.proofs.answer_lent.Statement.{statement}
 use Rattle.numbers.proofs.answer_lent.Tie as tie

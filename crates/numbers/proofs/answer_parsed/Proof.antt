@@ -2,7 +2,7 @@
 -- Assumes nothing.
 use mathlib.Core.Path.{ap}
 use native.Mathlib.Omega.{arith}
-use Rattle.numbers.specs.Case.{table-size, place-after}
+use Rattle.lines.specs.Case.{table-size, place-after}
 use borrow.Author.Needs.{needs}
 use Rattle.numbers.proofs.answer_parsed.Statement.{statement}
 use Rattle.numbers.proofs.answer_parsed.Tie as tie

@@ -4,11 +4,11 @@ use mathlib.Core.List.{List}
 use Prim.Native.Nat.{ℕ, _≤_}
 use lib.ListN.{length}
 use Rattle.text.specs.Text.{Place}
-use Rattle.numbers.specs.declared.words.Lent.{Lent}
-use Rattle.numbers.specs.declared.words.Lent.the-variants.{Bytes, Not}
-use Rattle.numbers.specs.declared.words.Taken.{Taken}
-use Rattle.numbers.specs.declared.question.Parsed.{Parsed}
-use Rattle.numbers.specs.declared.question.Parsed.the-variants.{Good, Bad}
+use Rattle.lines.specs.declared.words.Lent.{Lent}
+use Rattle.lines.specs.declared.words.Lent.the-variants.{Bytes, Not}
+use Rattle.lines.specs.declared.words.Taken.{Taken}
+use Rattle.lines.specs.declared.question.Parsed.{Parsed}
+use Rattle.lines.specs.declared.question.Parsed.the-variants.{Good, Bad}
 
 -- the bytes of a case's table, and the place after them
 abbrev pub table-size : Parsed → ℕ

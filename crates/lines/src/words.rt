@@ -6,7 +6,7 @@ ghost use Prim.Native.Nat.{_≤_};
 ghost use lib.ListN.{length};
 ghost use Rattle.text.specs.Text.{Place};
 ghost use Rattle.text.specs.Hex.{size-of};
-ghost use Rattle.numbers.specs.Case.{lent-size, Takes};
+ghost use Rattle.lines.specs.Case.{lent-size, Takes};
 
 // What a line lends as bytes.
 pub enum What {

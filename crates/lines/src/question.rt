@@ -7,7 +7,7 @@ use text::Number;
 ghost use mathlib.Core.Path.{_≡_};
 ghost use Prim.Native.Nat.{_≤_};
 ghost use lib.ListN.{length};
-ghost use Rattle.numbers.specs.Case.{lent-size, table-size, place-after};
+ghost use Rattle.lines.specs.Case.{lent-size, table-size, place-after};
 
 // The questions.
 pub enum Kind {

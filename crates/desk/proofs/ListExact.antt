@@ -27,8 +27,10 @@ use Rattle.requests.specs.Entry.{list-of}
 use Rattle.requests.specs.Reader.{check-of}
 use Rattle.requests.specs.Accepted.{Accepted}
 use Rattle.requests.proofs.Exact.{check-good, good-check, check-refused, refused-check}
-use Rattle.bench.proofs.ReplaySays.{accepted-replayable, replay-says, replay-empty}
-use Rattle.desk.specs.Questions.{on-list, replays, replay-asked}
+use Rattle.bench.specs.Loaded.{run-whole, replay-of}
+use Rattle.bench.specs.Meaning.{Ended}
+use Rattle.bench.proofs.ReplaySays.{accepted-replayable, run-ends, replay-empty}
+use Rattle.desk.specs.Questions.{on-list, replays, loads, replay-asked}
 use Rattle.desk.specs.Refusals.{Both-good, Refused-with, Told}
 
 module _ {A : Type 0} (ask : Table → Requests → A) (s list : List ℕ) where
@@ -67,20 +69,21 @@ module _ {A : Type 0} (ask : Table → Requests → A) (s list : List ℕ) where
 -- ---- the replay
 
 module _ (s : List ℕ) (bytes : Bytes s) (list : List ℕ) where
-  good-means : Both-good s list → Says (jobs-of (table-of s) (list-of list))
-      (sooner (jobs-of (table-of s) (list-of list))) (replays (table-of s) (list-of list))
-  good-means good =
-      replay-says (jobs-of (table-of s) (list-of list))
+  -- "All runs end by tick 131,070": the bench that is loaded with a good list stops by then, and rightly
+  pub load-ends : Both-good s list → Ended (jobs-of (table-of s) (list-of list))
+      (run-whole (loads (table-of s) (list-of list)))
+  load-ends good =
+      run-ends (jobs-of (table-of s) (list-of list))
       (accepted-replayable (proper-table s (λ i. bytes i .fits) (good .table-good)) list (good .list-good))
 
   -- a replay that is answered says of the machine what document 01 says
   pub replay-means : (r : Replayed) → replay-asked s list ≡ answered r
       → Says (jobs-of (table-of s) (list-of list)) (sooner (jobs-of (table-of s) (list-of list))) r
-  unfolding replay-asked
+  unfolding replay-asked replay-of
   replay-means r is =
       let good : Both-good s list = subst (Told s list) is (list-told replays s list) in
       let same : replays (table-of s) (list-of list) ≡ r = cc (good-answered replays s list good) in
-      rw same at (good-means good)
+      rw same at (load-ends good .says)
 
 -- "0 for an empty list"
 pub empty-met : (s : List ℕ) → WellFormed s → replay-asked s [] ≡ answered (all-met 0)

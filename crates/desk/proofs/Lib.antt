@@ -3,3 +3,4 @@ pub mod SameLaws
 pub mod NamedLaws
 pub mod ListLaws
 pub mod ListExact
+pub mod ListExample

@@ -6,7 +6,7 @@ use mathlib.Core.Path.{_≡_, refl, sym, _∙_}
 use mathlib.Core.List.{List, [], _∷_}
 use Prim.Native.Nat.{ℕ, zero, suc, _<_}
 use native.Mathlib.Omega.{arith}
-use lib.Dec.{T, ltb, ltb→lt}
+use lib.Dec.{T, ltb, ltb→lt, lit<}
 use lib.ListN.{length, getD}
 use Rattle.laws.specs.Sums.{sum, greatest, tabulate}
 use Rattle.laws.specs.Search.{least-from, first-least}
@@ -14,17 +14,18 @@ use Rattle.laws.specs.Reader.{read-on, read-all}
 use Rattle.laws.proofs.Every.{both-left, both-right, every, every-at}
 use Rattle.model.specs.Demand.{frame, offset, counted, lowest, all-demands, all-work}
 use Rattle.model.specs.Verdict.{horizon, closes, overloads, starts, overloaded-at, fits-at}
-use Rattle.model.specs.Answer.{answered}
+use Rattle.model.specs.Answer.{Answer, answered}
 use Rattle.model.proofs.WalkLaws.{walk, walk-is}
 use Rattle.model.specs.Request.{last-arrival}
 use Rattle.model.specs.Machine.{sooner, pick}
-use Rattle.model.specs.Replay.{last-tick}
+use Rattle.model.specs.Replay.{Replayed, missed, last-tick}
 use Rattle.table.specs.declared.reader.Reading.{Reading}
 use Rattle.table.specs.declared.reader.Reading.the-variants.{Table, Refused}
 use Rattle.table.specs.Bytes.{record-of}
 use Rattle.table.specs.Reader.{reading-of}
 use Rattle.table.specs.TableOf.{records-before, records-of, task-of}
 use Rattle.table.proofs.Exact.{read-good}
+use Rattle.table.proofs.ReadyLaws.{Bytes}
 use Rattle.table.proofs.TaskLaws.{proper-table}
 use Rattle.requests.specs.Entry.{entry-of}
 use Rattle.requests.specs.Reader.{check-of}
@@ -87,3 +88,19 @@ all-right = tt
 pub named-right : (i : ℕ) → i < length named → (other : Row)
     → said (getD named i other .bytes) (getD named i other .question) ≡ getD named i other .says
 named-right i below other = right-is (getD named i other) (every-at right named other all-right i below)
+
+-- ---- K5 by itself: B's bytes are bytes, and its list is answered so
+
+pub B-bytes : Bytes B
+unfolding A B is-byte every
+B-bytes i = record { fits = bytes-are B all i }
+  where
+    all : T (every is-byte B)
+    all = tt
+
+unsaid : {a b : Answer Replayed} → says-replay a ≡ says-replay b → a ≡ b
+unsaid same = cc
+
+pub K5 : replay-asked B B-list ≡ answered (missed 2 1)
+unfolding named
+K5 = unsaid (named-right 11 (lit< tt) (record { bytes = B; question = verdict-on; says = says-number (answered 0) }))

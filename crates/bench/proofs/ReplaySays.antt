@@ -17,7 +17,7 @@ use Rattle.requests.proofs.AcceptedLaws.{accepted-legal, accepted-few, accepted
 use Rattle.bench.specs.declared.state.Bench.{Bench}
 use Rattle.bench.specs.declared.state.Outcome.{Outcome}
 use Rattle.bench.specs.declared.state.Outcome.the-variants.{Running, Missed, AllMet}
-use Rattle.bench.specs.Loaded.{loaded, run-whole, answer-of, replay-of}
+use Rattle.bench.specs.Loaded.{loaded, run-whole, answer-of, end-of, replay-of}
 use Rattle.bench.specs.Meaning.{Replayable, Ended}
 use Rattle.bench.proofs.TickLaws.{missed-stopped, met-stopped}
 use Rattle.bench.proofs.MachineRun.{Behind, Stage, runs, missed, met, run-stage}
@@ -73,7 +73,7 @@ module _ (jobs : Jobs) (good : Replayable jobs) where
   run-ends = ended (run-whole (loaded jobs)) (run-stage jobs (good .fits) (suc last-tick) (le-refl (suc last-tick)))
 
   pub replay-says : Says jobs (sooner jobs) (replay-of jobs)
-  unfolding replay-of
+  unfolding end-of
   replay-says = run-ends .says
 
   -- and nothing else says it

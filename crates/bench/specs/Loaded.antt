@@ -52,5 +52,9 @@ answer-of (Missed i) tick = missed tick i
 answer-of AllMet tick = all-met tick
 answer-of Running tick = all-met tick
 
-unfoldable pub replay-of : Jobs → Replayed
-replay-of jobs = let end = run-whole (loaded jobs) in answer-of (end .outcome) (end .tick)
+unfoldable pub end-of : Bench → Replayed
+end-of b = let end = run-whole b in answer-of (end .outcome) (end .tick)
+
+-- the replay of a list: it is loaded and run
+abbrev pub replay-of : Jobs → Replayed
+replay-of jobs = end-of (loaded jobs)

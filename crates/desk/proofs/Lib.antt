@@ -4,3 +4,4 @@ pub mod NamedLaws
 pub mod ListLaws
 pub mod ListExact
 pub mod ListExample
+pub mod ReplayLaws

@@ -27,7 +27,7 @@ use Rattle.requests.specs.Entry.{list-of}
 use Rattle.requests.specs.Reader.{check-of}
 use Rattle.requests.specs.Accepted.{Accepted}
 use Rattle.requests.proofs.Exact.{check-good, good-check, check-refused, refused-check}
-use Rattle.bench.specs.Loaded.{run-whole, replay-of}
+use Rattle.bench.specs.Loaded.{run-whole, end-of}
 use Rattle.bench.specs.Meaning.{Ended}
 use Rattle.bench.proofs.ReplaySays.{accepted-replayable, run-ends, replay-empty}
 use Rattle.desk.specs.Questions.{on-list, replays, loads, replay-asked}
@@ -79,7 +79,7 @@ module _ (s : List ℕ) (bytes : Bytes s) (list : List ℕ) where
   -- a replay that is answered says of the machine what document 01 says
   pub replay-means : (r : Replayed) → replay-asked s list ≡ answered r
       → Says (jobs-of (table-of s) (list-of list)) (sooner (jobs-of (table-of s) (list-of list))) r
-  unfolding replay-asked replay-of
+  unfolding replay-asked end-of
   replay-means r is =
       let good : Both-good s list = subst (Told s list) is (list-told replays s list) in
       let same : replays (table-of s) (list-of list) ≡ r = cc (good-answered replays s list good) in

@@ -30,7 +30,7 @@ use Rattle.table.proofs.TaskLaws.{proper-table}
 use Rattle.requests.specs.Entry.{entry-of}
 use Rattle.requests.specs.Reader.{check-of}
 use Rattle.bench.specs.Rule.{first-late, first-left, next-in, tick-of, run-of}
-use Rattle.bench.specs.Loaded.{slots-of, loaded, run-whole, replay-of}
+use Rattle.bench.specs.Loaded.{slots-of, loaded, run-whole, end-of}
 use Rattle.desk.specs.Questions.{on-table, demand-asked, verdict-asked, replay-asked}
 use Rattle.desk.specs.Named.{Question, demand-of, verdict-on, replay-with, Said, says-number, says-verdict, says-replay, said, Row, A, B, B-list, named}
 use Rattle.desk.proofs.SameLaws.{same-int, same-list, same-verdict, same-replay, same-answer, same-said, same-said-is}
@@ -80,7 +80,7 @@ unfolding named A B right by-walk quick is-byte every same-said same-answer same
     demand-asked reading-of read-all read-on record-of records-before records-of task-of horizon walk overloads closes
     overloaded-at fits-at starts lowest all-demands all-work counted offset frame sum greatest tabulate
     least-from first-least
-    B-list same-replay replay-asked check-of entry-of last-arrival last-tick replay-of run-whole run-of
+    B-list same-replay replay-asked check-of entry-of last-arrival last-tick end-of run-whole run-of
     loaded slots-of tick-of first-late first-left next-in pick sooner
 all-right = tt
 

@@ -134,17 +134,6 @@ pub fn check_list<'a, 'b>(s: &'a [u8], list: &'b [u8]) -> Checked
     lists::check_in(s, shape, list)
 }
 
-// The replay of a request list.
-pub fn replay<'a, 'b>(s: &'a [u8], list: &'b [u8]) -> Ending
-    ensures { λ r. ⌜ r ≡ ending-of (replay-asked (now (s .entry)) (now (list .entry))) ⌝ }
-{
-    let reading = table::reader::read_table(s);
-    let Reading::Table(shape) = reading else {
-        return Ending::Refused(table::reader::refusal_of(reading));
-    };
-    lists::replay_in(s, shape, list)
-}
-
 // The bench loaded with a request list, for a caller that ticks it.
 pub fn load<'a, 'b>(s: &'a [u8], list: &'b [u8]) -> Loaded
     ensures { λ r. ⌜ r ≡ loading-of (now (s .entry)) (now (list .entry)) ⌝ }
@@ -157,4 +146,17 @@ pub fn load<'a, 'b>(s: &'a [u8], list: &'b [u8]) -> Loaded
         };
     };
     lists::load_in(s, shape, list)
+}
+
+// The replay of a request list: the bench is loaded with it and run.
+pub fn replay<'a, 'b>(s: &'a [u8], list: &'b [u8]) -> Ending
+    ensures { λ r. ⌜ r ≡ ending-of (replay-asked (now (s .entry)) (now (list .entry))) ⌝ }
+{
+    let loaded = load(s, list);
+    let check = loaded.check;
+    let Checked::Legal(_) = check else {
+        return Ending::Refused(requests::reader::refusal_of(check));
+    };
+    let start = loaded.bench;
+    Ending::Is(bench::replay::finish(start))
 }

@@ -1,4 +1,4 @@
--- The least number that passes a test, and the first place of the least value.
+-- The least number that passes a test, the greatest, and the first place of the least value.
 -- Assumes nothing.
 use mathlib.Core.Bool.{Bool, true, false, cond}
 use Prim.Native.Nat.{ℕ, zero, suc}
@@ -18,6 +18,11 @@ least-from test (suc many) start = elim (test start) [ true ↦ at start | false
 abbrev pub place-or : ℕ → Found → ℕ
 place-or other (at i) = i
 place-or other nowhere = other
+
+-- how many of 0, 1, 2, .. go up to and including the last below n that passes; 0 where none passes
+unfoldable pub up-to-last : (ℕ → Bool) → ℕ → ℕ
+up-to-last test zero = 0
+up-to-last test (suc n) = elim (test n) [ true ↦ suc n | false ↦ up-to-last test n ]
 
 -- the first of 1, .., n at which f is least; 1 where n is 0
 unfoldable pub first-least : (ℕ → ℤ) → ℕ → ℕ

@@ -9,3 +9,5 @@ pub mod Jobs
 pub mod Machine
 pub mod Tick
 pub mod Replay
+pub mod Weave
+pub mod Overload

@@ -4,6 +4,8 @@
 use mathlib.Core.Path.{_≡_}
 use mathlib.Core.Logic.{_⊎_}
 use Prim.Native.Nat.{ℕ, _+_, _≤_, _<_}
+use lib.Dec.{eqb}
+use Rattle.laws.specs.Sums.{tally}
 use Rattle.model.specs.Task.{Table}
 use Rattle.model.specs.Demand.{frame}
 
@@ -16,6 +18,15 @@ pub record Request : Type 0 where
 pub record Requests : Type 0 where
   pub count : ℕ
   pub request : ℕ → Request
+
+-- the two are the same request by request
+pub record Same (list other : Requests) : Type 0 where
+  pub count-is : list .count ≡ other .count
+  pub request-is : (i : ℕ) → i < other .count → list .request i ≡ other .request i
+
+-- how many of the first i requests are of task k
+abbrev pub of-task : Requests → ℕ → ℕ → ℕ
+of-task list k i = tally i (λ j. eqb (list .request j .task) k)
 
 -- the table has a task k, and the task a frame i
 pub record Has-frame (table : Table) (k i : ℕ) : Type 0 where

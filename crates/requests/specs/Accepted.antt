@@ -31,6 +31,11 @@ pub record Good (table : Table) (s : List ℕ) (j : ℕ) : Type 0 where
   pub in-place : In-place table s j
   pub in-turn : In-turn table s j
 
+-- the rules but for the bench's limit of 128 records
+pub record Lawful (table : Table) (s : List ℕ) : Type 0 where
+  pub whole : length s % size ≡ 0
+  pub good : (j : ℕ) → j < records s → Good table s j
+
 pub record Accepted (table : Table) (s : List ℕ) : Type 0 where
   pub long : Length-right (length s)
   pub good : (j : ℕ) → j < records s → Good table s j

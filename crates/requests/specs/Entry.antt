@@ -1,7 +1,7 @@
--- The bytes of one request record, and the list that they are: document 01, "The replay bench".
+-- The bytes of one request record, the list that they are, and the bytes of a list: document 01, "The replay bench".
 -- Assumes nothing.
-use Prim.Native.Nat.{ℕ, _+_, _*_}
-use mathlib.Core.List.{List}
+use Prim.Native.Nat.{ℕ, zero, suc, _+_, _*_, _/_, _%_}
+use mathlib.Core.List.{List, [], _∷_, _++_}
 use lib.ListN.{getD}
 use Rattle.model.specs.Request.{Request, Requests}
 use Rattle.table.specs.Bytes.{size, records, half}
@@ -27,3 +27,18 @@ request-in x = record { task = x .task; frame = x .frame; arrival = x .arrival }
 -- the list that the bytes are
 abbrev pub list-of : List ℕ → Requests
 list-of s = record { count = records s; request = λ i. request-in (entry-of s i) }
+
+-- ---- the other way: a list as bytes
+
+abbrev pub entry-bytes : Request → List ℕ
+entry-bytes x =
+    let a = x .arrival in
+    x .task ∷ x .frame ∷ 0 ∷ 0 ∷ a % 256 ∷ a / 256 % 256 ∷ a / 65536 % 256 ∷ a / 16777216 ∷ []
+
+-- the first n requests of a list, and all of them
+unfoldable pub bytes-to : Requests → ℕ → List ℕ
+bytes-to list zero = []
+bytes-to list (suc n) = bytes-to list n ++ entry-bytes (list .request n)
+
+abbrev pub bytes-of : Requests → List ℕ
+bytes-of list = bytes-to list (list .count)

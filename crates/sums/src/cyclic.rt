@@ -21,14 +21,15 @@ fn gain(reach: u64, left: u64, e: u16) -> u64
     if reach <= left { e as u64 } else { 0 }
 }
 
-fn less(left: u64, p: u16) -> u64
+// The time that is left after p ticks more.
+pub fn less(left: u64, p: u16) -> u64
     ensures { λ r. ⌜ r ≡ left - p ⌝ }
 {
     if p as u64 <= left { left - p as u64 } else { 0 }
 }
 
 // The frame after frame i of a task.
-fn following(frames: usize, i: usize) -> usize
+pub fn following(frames: usize, i: usize) -> usize
     requires { ⌜ i < frames ⌝ }
     ensures { λ r. ⌜ r ≡ (i + 1) % frames ⌝ }
 {

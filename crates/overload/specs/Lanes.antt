@@ -1,0 +1,97 @@
+-- How the overload list is put together in the code: where each task stands, and what is asked of the numbers.
+-- Assumes nothing.
+use mathlib.Core.Bool.{Bool, cond, not, _&&_, _||_}
+use mathlib.Core.Path.{_≡_}
+use mathlib.Core.List.{List}
+use Prim.Native.Nat.{ℕ, _+_, _-_, _*_, _≤_, _<_}
+use lib.Dec.{ltb}
+use lib.ListN.{getD, set}
+use Rattle.laws.specs.Sums.{tabulate}
+use Rattle.laws.specs.Search.{place-or}
+use Rattle.model.specs.Task.{Task, Table}
+use Rattle.model.specs.Demand.{frame, offset}
+use Rattle.model.specs.Request.{Request, Has-frame}
+use Rattle.model.specs.Machine.{Order, pick}
+use Rattle.model.specs.Verdict.{start-in, starts}
+use Rattle.model.specs.Weave.{Runs, earliest, weave}
+use Rattle.model.specs.Overload.{requests-by}
+use Rattle.table.specs.Bytes.{size}
+use Rattle.table.specs.TableOf.{table-of}
+use Rattle.table.specs.Ready.{Ready}
+use Rattle.table.specs.declared.plan.Plan.{Plan}
+use Rattle.sums.specs.Sized.{ceiling}
+use Rattle.overload.specs.declared.lanes.Lanes.{Lanes}
+
+-- ---- how many requests
+
+-- the list is asked for at t, from these start frames on
+pub record Asked (s : List ℕ) (plan : Plan) (first : List ℕ) (t : ℕ) : Type 0 where
+  pub ready : Ready s plan
+  pub within : t ≤ ceiling
+  pub starts-are : first ≡ starts (table-of s) t
+
+pub record Counted (task : Task) (s t r : ℕ) : Type 0 where
+  pub is : r ≡ requests-by task s t
+  pub at-most : r ≤ t
+
+-- one number for each task, 0 past the last task
+abbrev pub many-in : Table → ℕ → ℕ → ℕ
+many-in table t k = cond (ltb k (table .tasks)) (requests-by (table .task k) (start-in table t k) t) 0
+
+unfoldable pub manies : Table → ℕ → List ℕ
+manies table t = tabulate 16 (many-in table t)
+
+-- the runs that two arrays say
+abbrev pub runs-of : List ℕ → List ℕ → Runs
+runs-of starts many = record { start = λ k. getD starts k 0; many = λ k. getD many k 0 }
+
+-- what the writer of n requests in `room` bytes asks: the starts are frames of their tasks, and no arrival is past the
+-- ceiling
+pub record Puts (table : Table) (runs : Runs) (n room : ℕ) : Type 0 where
+  pub count-is : n ≡ weave table runs .count
+  pub fits : n * size ≤ room
+  pub inside : (k : ℕ) → k < table .tasks → runs .start k < table .task k .count
+  pub near : (k n : ℕ) → k < table .tasks → n < runs .many k → offset (table .task k) (runs .start k) n < ceiling
+
+-- ---- where each task stands
+
+abbrev pub has-left : Lanes → ℕ → Bool
+has-left lanes k = ltb 0 (getD (lanes .left) k 0)
+
+abbrev pub comes-before : Lanes → Order
+comes-before lanes j k = ltb (getD (lanes .arrival) j 0) (getD (lanes .arrival) k 0)
+
+-- of the tasks with requests left, the one whose next arrives first; the lower at equal arrivals
+unfoldable pub front : ℕ → Lanes → ℕ
+front tasks lanes = place-or 0 (pick (has-left lanes) (comes-before lanes) tasks)
+
+-- of task k and the best below it, the one that comes first
+abbrev pub better-of : Lanes → ℕ → ℕ → ℕ
+better-of lanes best k =
+    cond (has-left lanes k && (not (has-left lanes best) || comes-before lanes k best)) k best
+
+-- what is asked before a request of task k is taken
+pub record Movable (s : List ℕ) (plan : Plan) (lanes : Lanes) (k : ℕ) : Type 0 where
+  pub ready : Ready s plan
+  pub known : Has-frame (table-of s) k (getD (lanes .frame) k 0)
+  pub some : 0 < getD (lanes .left) k 0
+  pub near : getD (lanes .arrival) k 0 ≤ ceiling
+
+-- one request of task k is taken
+unfoldable pub moved-on : Table → Lanes → ℕ → Lanes
+moved-on table lanes k =
+    let i = getD (lanes .frame) k 0 in
+    record {
+      left = set (lanes .left) k (getD (lanes .left) k 0 - 1);
+      frame = set (lanes .frame) k (frame (table .task k) i 1);
+      arrival = set (lanes .arrival) k (getD (lanes .arrival) k 0 + table .task k .P i);
+    }
+
+-- the next request of task k
+abbrev pub next-in : Lanes → ℕ → Request
+next-in lanes k = record { task = k; frame = getD (lanes .frame) k 0; arrival = getD (lanes .arrival) k 0 }
+
+-- the lanes stand where `taken k` requests of each task k are taken
+pub record Stand (table : Table) (runs : Runs) (taken : ℕ → ℕ) (lanes : Lanes) : Type 0 where
+  pub left-is : (k : ℕ) → k < table .tasks → getD (lanes .left) k 0 ≡ runs .many k - taken k
+  pub next-is : (k : ℕ) → k < table .tasks → next-in lanes k ≡ earliest table runs k (taken k)

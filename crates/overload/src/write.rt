@@ -1,0 +1,67 @@
+// The writer of the overload list: refusal 12.
+use table::plan::Plan;
+use table::reader::Refusal;
+use table::record::SIZE;
+ghost use mathlib.Core.Path.{_≡_};
+ghost use Prim.Native.Nat.{_≤_};
+ghost use Rattle.laws.specs.Sums.{sum};
+ghost use lib.ListN.{getD};
+ghost use Rattle.model.specs.Overload.{overload-list};
+ghost use Rattle.table.specs.TableOf.{table-of};
+ghost use Rattle.requests.specs.Entry.{bytes-of};
+ghost use Rattle.overload.specs.Lanes.{Asked};
+ghost use Rattle.overload.specs.Place.{placed, Wrote};
+
+// How many bytes were written, or the refusal.
+pub enum Written {
+    Bytes(usize),
+    Refused(Refusal),
+}
+
+// How many requests all tasks make.
+fn total_of(tasks: usize, many: [u32; 16]) -> usize
+    requires { ⌜ tasks ≤ 16 ⌝ }
+    ensures { λ r. ⌜ r ≡ sum tasks (λ k. getD many k 0) ⌝ }
+{
+    let mut sum: usize = 0;
+    let mut k: usize = 0;
+    while k < tasks {
+        sum += many[k] as usize;
+        k += 1;
+    }
+    sum
+}
+
+// The list of the overload at t, from a place of the buffer on, where `starts` are the start frames.
+pub fn write_list<'a, 'b>(
+    s: &'a [u8],
+    plan: Plan,
+    starts: [u8; 16],
+    t: u64,
+    buffer: &'b mut [u8],
+    place: usize,
+) -> Written
+    requires { ⌜ Asked (now s) plan starts t ⌝ }
+    ensures { λ r. ⌜
+        Wrote (now (buffer .entry)) place
+        (placed (now (buffer .entry)) place (bytes-of (overload-list (table-of (now (s .entry))) t))) r
+        (now (buffer .exit))
+        ⌝ }
+{
+    let many = crate::count::count_all(s, plan, starts, t);
+    let n = total_of(plan.tasks, many);
+    if buffer.len() < place {
+        return Written::Refused(Refusal {
+            number: 12,
+            index: 0,
+        });
+    }
+    if buffer.len() - place < n * SIZE {
+        return Written::Refused(Refusal {
+            number: 12,
+            index: 0,
+        });
+    }
+    crate::put::put_all(s, plan, starts, many, n, &mut buffer[place..]);
+    Written::Bytes(n * SIZE)
+}

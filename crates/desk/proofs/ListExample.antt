@@ -7,7 +7,7 @@ use Rattle.model.specs.Replay.{missed, Missed}
 use Rattle.table.specs.TableOf.{table-of}
 use Rattle.requests.specs.Entry.{list-of}
 use Rattle.desk.specs.Questions.{replays, replay-asked}
-use Rattle.desk.specs.Named.{B, B-list}
+use Rattle.desk.specs.Tables.{B, B-list}
 use Rattle.desk.specs.Refusals.{Both-good, Told}
 use Rattle.desk.proofs.NamedLaws.{B-bytes, K5}
 use Rattle.desk.proofs.ListExact.{list-told, replay-means}

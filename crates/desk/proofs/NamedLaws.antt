@@ -2,23 +2,26 @@
 -- The verdict is computed by the walk that stops at the closing window, and carried over by its law.
 -- Assumes nothing.
 use mathlib.Core.Bool.{Bool, _&&_}
-use mathlib.Core.Path.{_≡_, refl, sym, _∙_}
+use mathlib.Core.Path.{_≡_, refl, sym, _∙_, ap}
 use mathlib.Core.List.{List, [], _∷_}
 use Prim.Native.Nat.{ℕ, zero, suc, _<_}
 use native.Mathlib.Omega.{arith}
 use lib.Dec.{T, ltb, ltb→lt, lit<}
 use lib.ListN.{length, getD}
 use Rattle.laws.specs.Sums.{sum, greatest, tabulate}
-use Rattle.laws.specs.Search.{least-from, first-least}
+use Rattle.laws.specs.Search.{least-from, first-least, up-to-last}
 use Rattle.laws.specs.Reader.{read-on, read-all}
 use Rattle.laws.proofs.Every.{both-left, both-right, every, every-at}
 use Rattle.model.specs.Demand.{frame, offset, counted, lowest, all-demands, all-work}
-use Rattle.model.specs.Verdict.{horizon, closes, overloads, starts, overloaded-at, fits-at}
+use Rattle.model.specs.Task as Table
+use Rattle.model.specs.Verdict.{horizon, closes, overloads, starts, overloaded-at, fits-at, Verdict, verdict}
+use Rattle.model.specs.Weave.{foremost, taken-by, next-at, weave}
+use Rattle.model.specs.Overload.{requests-by, overload-list}
 use Rattle.model.specs.Answer.{Answer, answered}
 use Rattle.model.proofs.WalkLaws.{walk, walk-is}
 use Rattle.model.specs.Request.{last-arrival}
 use Rattle.model.specs.Machine.{sooner, pick}
-use Rattle.model.specs.Replay.{Replayed, missed, last-tick}
+use Rattle.model.specs.Replay.{missed, last-tick}
 use Rattle.table.specs.declared.reader.Reading.{Reading}
 use Rattle.table.specs.declared.reader.Reading.the-variants.{Table, Refused}
 use Rattle.table.specs.Bytes.{record-of}
@@ -27,19 +30,30 @@ use Rattle.table.specs.TableOf.{records-before, records-of, task-of}
 use Rattle.table.proofs.Exact.{read-good}
 use Rattle.table.proofs.ReadyLaws.{Bytes}
 use Rattle.table.proofs.TaskLaws.{proper-table}
-use Rattle.requests.specs.Entry.{entry-of}
+use Rattle.requests.specs.Entry.{entry-of, bytes-to}
 use Rattle.requests.specs.Reader.{check-of}
 use Rattle.bench.specs.Rule.{first-late, first-left, next-in, tick-of, run-of}
 use Rattle.bench.specs.Loaded.{slots-of, loaded, run-whole, end-of}
+use Rattle.overload.specs.Place.{placed, buffer-after}
 use Rattle.desk.specs.Questions.{on-table, demand-asked, verdict-asked, replay-asked}
-use Rattle.desk.specs.Named.{Question, demand-of, verdict-on, replay-with, Said, says-number, says-verdict, says-replay, said, Row, A, B, B-list, named}
-use Rattle.desk.proofs.SameLaws.{same-int, same-list, same-verdict, same-replay, same-answer, same-said, same-said-is}
+use Rattle.desk.specs.Writing.{on-overload, list-at, overload-asked}
+use Rattle.desk.specs.Tables.{A, B, B-list, K7-task, four, twenty}
+use Rattle.desk.specs.Named.{Question, demand-of, verdict-on, replay-with, overload-into, Leaves, Said, said, Row, named}
+use Rattle.desk.proofs.SameLaws.{same-int, same-list, same-verdict, same-replay, same-answer, same-left, same-said, same-said-is}
+
+-- the overload list, where the walk gives the verdict
+quick-list : List ℕ → List ℕ → ℕ → Answer (List ℕ)
+quick-list s buffer place =
+    on-table s (λ table. on-overload (walk table horizon 1) (λ t. placed buffer place (list-at table t)))
 
 -- what the rules say, by the walk
-quick : List ℕ → Question → Said
-quick s (demand-of task t) = says-number (demand-asked s task t)
-quick s verdict-on = says-verdict (on-table s (λ table. answered (walk table horizon 1)))
-quick s (replay-with list) = says-replay (replay-asked s list)
+quick : List ℕ → (q : Question) → Said q
+quick s (demand-of task t) = demand-asked s task t
+quick s verdict-on = on-table s (λ table. answered (walk table horizon 1))
+quick s (replay-with list) = replay-asked s list
+quick s (overload-into buffer place) =
+    let list = quick-list s buffer place in
+    record { wrote = list; buffer = buffer-after buffer place list }
 
 is-byte : ℕ → Bool
 is-byte x = ltb x 256
@@ -50,20 +64,30 @@ bytes-are [] h i = omega arith
 bytes-are (x ∷ s) h zero = ltb→lt x 256 (both-left (is-byte x) (every is-byte s) h)
 bytes-are (x ∷ s) h (suc i) = bytes-are s (both-right (is-byte x) (every is-byte s) h) i
 
-quick-is : (s : List ℕ) (q : Question) → T (every is-byte s) → quick s q ≡ said s q
-unfolding quick verdict-asked
-quick-is s (demand-of task t) h = refl
-quick-is s (replay-with list) h = refl
-quick-is s verdict-on h = which (reading-of s) refl
-  where
-    which : (r : Reading) → reading-of s ≡ r
-        → says-verdict (on-table s (λ table. answered (walk table horizon 1))) ≡ says-verdict (verdict-asked s)
-    which (Table shape) read =
-        rw (read, walk-is (proper-table s (bytes-are s h) (read-good s shape read)) horizon)
-    which (Refused r) read = rw read
+module _ (s : List ℕ) (bytes : T (every is-byte s)) where
+  -- of a table that was read, whatever is asked of its verdict may be asked of the walk
+  walked : {A : Type 0} (ask : Table.Table → Verdict → Answer A)
+      → on-table s (λ table. ask table (walk table horizon 1)) ≡ on-table s (λ table. ask table (verdict horizon table))
+  walked {A} ask = which (reading-of s) refl
+    where
+      which : (r : Reading) → reading-of s ≡ r
+          → on-table s (λ table. ask table (walk table horizon 1))
+          ≡ on-table s (λ table. ask table (verdict horizon table))
+      which (Table shape) read =
+          rw (read, walk-is (proper-table s (bytes-are s bytes) (read-good s shape read)) horizon)
+      which (Refused r) read = rw read
+
+  quick-is : (q : Question) → quick s q ≡ said s q
+  unfolding quick verdict-asked overload-asked quick-list
+  quick-is (demand-of task t) = refl
+  quick-is verdict-on = walked (λ table v. answered v)
+  quick-is (replay-with list) = refl
+  quick-is (overload-into buffer place) =
+      ap (λ (list : Answer (List ℕ)). record { wrote = list; buffer = buffer-after buffer place list })
+      (walked (λ table v. on-overload v (λ t. placed buffer place (list-at table t))))
 
 by-walk : Row → Bool
-by-walk row = same-said (quick (row .bytes) (row .question)) (row .says)
+by-walk row = same-said (row .question) (quick (row .bytes) (row .question)) (row .says)
 
 right : Row → Bool
 right row = every is-byte (row .bytes) && by-walk row
@@ -71,8 +95,8 @@ right row = every is-byte (row .bytes) && by-walk row
 right-is : (row : Row) → T (right row) → said (row .bytes) (row .question) ≡ row .says
 unfolding right by-walk
 right-is row h =
-    sym (quick-is (row .bytes) (row .question) (both-left (every is-byte (row .bytes)) (by-walk row) h))
-    ∙ same-said-is (quick (row .bytes) (row .question)) (row .says)
+    sym (quick-is (row .bytes) (both-left (every is-byte (row .bytes)) (by-walk row) h) (row .question))
+    ∙ same-said-is (row .question) (quick (row .bytes) (row .question)) (row .says)
     (both-right (every is-byte (row .bytes)) (by-walk row) h)
 
 all-right : T (every right named)
@@ -82,9 +106,11 @@ unfolding named A B right by-walk quick is-byte every same-said same-answer same
     least-from first-least
     B-list same-replay replay-asked check-of entry-of last-arrival last-tick end-of run-whole run-of
     loaded slots-of tick-of first-late first-left next-in pick sooner
+    K7-task four twenty same-left quick-list placed overload-list weave next-at taken-by foremost requests-by up-to-last
+    bytes-to
 all-right = tt
 
--- K1, K2, K3, K4's verdict, K5, K6, K7
+-- K1 to K7, and the list of four requests
 pub named-right : (i : ℕ) → i < length named → (other : Row)
     → said (getD named i other .bytes) (getD named i other .question) ≡ getD named i other .says
 named-right i below other = right-is (getD named i other) (every-at right named other all-right i below)
@@ -98,9 +124,6 @@ B-bytes i = record { fits = bytes-are B all i }
     all : T (every is-byte B)
     all = tt
 
-unsaid : {a b : Answer Replayed} → says-replay a ≡ says-replay b → a ≡ b
-unsaid same = cc
-
 pub K5 : replay-asked B B-list ≡ answered (missed 2 1)
 unfolding named
-K5 = unsaid (named-right 11 (lit< tt) (record { bytes = B; question = verdict-on; says = says-number (answered 0) }))
+K5 = named-right 14 (lit< tt) (record { bytes = B; question = demand-of 0 0; says = answered 0 })

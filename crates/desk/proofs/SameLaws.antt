@@ -10,7 +10,7 @@ use Rattle.laws.proofs.Every.{both-left, both-right}
 use Rattle.model.specs.Verdict.{Verdict, overloaded, fits, undecided}
 use Rattle.model.specs.Replay.{Replayed, missed, all-met}
 use Rattle.model.specs.Answer.{Answer, answered, refused}
-use Rattle.desk.specs.Named.{Said, says-number, says-verdict, says-replay}
+use Rattle.desk.specs.Named.{Question, demand-of, verdict-on, replay-with, overload-into, Leaves, Said}
 
 unfoldable pub same-int : ℤ → ℤ → Bool
 same-int (pos a) (pos b) = eqb a b
@@ -102,25 +102,32 @@ same-answer-is same is (refused m j) (answered b) h = absurd h
 same-answer-is same is (refused m j) (refused n i) h =
     ap₂ refused (eqb→eq m n (both-left (eqb m n) (eqb j i) h)) (eqb→eq j i (both-right (eqb m n) (eqb j i) h))
 
-unfoldable pub same-said : Said → Said → Bool
-same-said (says-number a) (says-number b) = same-answer eqb a b
-same-said (says-verdict a) (says-verdict b) = same-answer same-verdict a b
-same-said (says-replay a) (says-replay b) = same-answer same-replay a b
-same-said (says-number a) (says-verdict b) = false
-same-said (says-number a) (says-replay b) = false
-same-said (says-verdict a) (says-number b) = false
-same-said (says-verdict a) (says-replay b) = false
-same-said (says-replay a) (says-number b) = false
-same-said (says-replay a) (says-verdict b) = false
+unfoldable pub same-left : Leaves → Leaves → Bool
+same-left a b = same-answer same-list (a .wrote) (b .wrote) && same-list (a .buffer) (b .buffer)
 
-pub same-said-is : (x y : Said) → T (same-said x y) → x ≡ y
+same-left-is : (a b : Leaves) → T (same-left a b) → a ≡ b
+unfolding same-left
+same-left-is a b h = rw (wrote-is, buffer-is)
+  where
+    wrote-is : a .wrote ≡ b .wrote
+    wrote-is =
+        same-answer-is same-list same-list-is (a .wrote) (b .wrote)
+        (both-left (same-answer same-list (a .wrote) (b .wrote)) (same-list (a .buffer) (b .buffer)) h)
+
+    buffer-is : a .buffer ≡ b .buffer
+    buffer-is =
+        same-list-is (a .buffer) (b .buffer)
+        (both-right (same-answer same-list (a .wrote) (b .wrote)) (same-list (a .buffer) (b .buffer)) h)
+
+unfoldable pub same-said : (q : Question) → Said q → Said q → Bool
+same-said (demand-of task t) = same-answer eqb
+same-said verdict-on = same-answer same-verdict
+same-said (replay-with list) = same-answer same-replay
+same-said (overload-into buffer place) = same-left
+
+pub same-said-is : (q : Question) (x y : Said q) → T (same-said q x y) → x ≡ y
 unfolding same-said
-same-said-is (says-number a) (says-number b) h = ap says-number (same-answer-is eqb eqb→eq a b h)
-same-said-is (says-verdict a) (says-verdict b) h = ap says-verdict (same-answer-is same-verdict same-verdict-is a b h)
-same-said-is (says-replay a) (says-replay b) h = ap says-replay (same-answer-is same-replay same-replay-is a b h)
-same-said-is (says-number a) (says-verdict b) h = absurd h
-same-said-is (says-number a) (says-replay b) h = absurd h
-same-said-is (says-verdict a) (says-number b) h = absurd h
-same-said-is (says-verdict a) (says-replay b) h = absurd h
-same-said-is (says-replay a) (says-number b) h = absurd h
-same-said-is (says-replay a) (says-verdict b) h = absurd h
+same-said-is (demand-of task t) = same-answer-is eqb eqb→eq
+same-said-is verdict-on = same-answer-is same-verdict same-verdict-is
+same-said-is (replay-with list) = same-answer-is same-replay same-replay-is
+same-said-is (overload-into buffer place) = same-left-is

@@ -1,4 +1,6 @@
 pub mod Questions
+pub mod Writing
 pub mod Written
+pub mod Tables
 pub mod Named
 pub mod Refusals

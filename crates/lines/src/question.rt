@@ -19,6 +19,8 @@ pub enum Kind {
     Work,
     List,
     Replay,
+    Overload,
+    OverloadReplay,
 }
 
 // The question that a word names.
@@ -68,6 +70,12 @@ fn kind_of(w: &[u8]) -> Known {
     if text::same(w, b"replay") {
         return Known::Is(Kind::Replay);
     }
+    if text::same(w, b"overload") {
+        return Known::Is(Kind::Overload);
+    }
+    if text::same(w, b"overload-replay") {
+        return Known::Is(Kind::OverloadReplay);
+    }
     Known::Not
 }
 
@@ -77,6 +85,7 @@ fn numbers_of(kind: Kind) -> usize {
         Kind::Margin => 1,
         Kind::Demand => 2,
         Kind::Work => 2,
+        Kind::Overload => 2,
         _ => 0,
     }
 }

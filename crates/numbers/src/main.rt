@@ -2,7 +2,7 @@
 // A line is NAME QUESTION NUMBERS TABLE, and LIST where the question has one: bytes in hex, or - for none. Words stand
 // apart by one or more spaces. Lines with no word, and lines whose first word begins with #, are passed over. A line
 // that cannot be read is said and stops nothing.
-mod say;
+mod writing;
 
 use libc::STDERR_FILENO;
 use lines::question::Case;
@@ -25,6 +25,8 @@ fn answer(kind: Kind, first: u64, second: u64, table: &[u8], list: &[u8]) {
         Kind::Work => say::say_amount(b"work ", desk::work(table, first, second)),
         Kind::List => say::say_checked(desk::check_list(table, list)),
         Kind::Replay => say::say_ending(desk::replay(table, list)),
+        Kind::Overload => writing::write_into(table, first, second),
+        Kind::OverloadReplay => writing::write_and_replay(table),
     }
 }
 

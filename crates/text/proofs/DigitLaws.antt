@@ -7,7 +7,7 @@ use Prim.Native.Nat.{ℕ, _+_, _*_, _-_, _^_, _≤_, _<_}
 use native.Mathlib.Omega.{arith}
 use lib.Dec.{leb}
 use lib.ListN.{length, getD}
-use borrow.Author.Tests.{lt-ltb, le-ltb, leb-true, eq-eqb, ne-eqb}
+use borrow.Author.Tests.{lt-ltb, le-ltb, le-leb, lt-leb, leb-true, eq-eqb, ne-eqb}
 use Rattle.laws.proofs.Every.{and-true-left}
 use Rattle.text.specs.declared.Number.the-variants.{Is, Not}
 use Rattle.text.specs.Digits.{between, digit-of, longer, number-from, number-of}
@@ -33,6 +33,24 @@ module _ (b : ℕ) where
   pub digit-none : between 48 b 57 ≡ false → between 65 b 70 ≡ false → between 97 b 102 ≡ false → 16 ≡ digit-of b
   unfolding digit-of
   digit-none d e f = simp (d, e, f)
+
+-- the digit of a number, below 10 and from there on
+pub below-ten : (n : ℕ) → n < 10 → digit-of (48 + n) ≡ n
+unfolding digit-of
+below-ten n low = rw (le-leb 48 (48 + n) (omega arith), le-leb (48 + n) 57 (omega arith)) (omega arith)
+
+pub from-ten : (n : ℕ) → 10 ≤ n → n < 16 → digit-of (87 + n) ≡ n
+unfolding digit-of
+from-ten n high low =
+    rw (
+      le-leb 48 (87 + n) (omega arith),
+      lt-leb (87 + n) 57 (omega arith),
+      le-leb 65 (87 + n) (omega arith),
+      lt-leb (87 + n) 70 (omega arith),
+      le-leb 97 (87 + n) (omega arith),
+      le-leb (87 + n) 102 (omega arith),
+    )
+    (omega arith)
 
 -- a digit behind n
 module _ (n b : ℕ) where

@@ -119,6 +119,14 @@ fn digit(b: u8) -> u8
     16
 }
 
+// The hex digit of a number below 16, in lower case.
+pub fn hex_digit(n: u8) -> u8
+    requires { ⌜ n < 16 ⌝ }
+    ensures { λ r. ⌜ digit-of r ≡ n ⌝ }
+{
+    if n < 10 { 48 + n } else { 87 + n }
+}
+
 // A byte as a number.
 pub fn wide(x: u8) -> u64
     ensures { λ r. ⌜ (r ≡ x) × (r < 256) ⌝ }

@@ -1,9 +1,9 @@
--- `say::say_starts` is safe and ends. The loop's invariant: k is at most 16. The measure is 16 - k.
+-- `say_starts` is safe and ends. The loop's invariant: k is at most 16. The measure is 16 - k.
 -- Assumes nothing.
 use Prim.Native.Nat.{_≤_, _-_}
 use borrow.Author.Needs.{needs}
-use Rattle.numbers.proofs.say.say_starts.Statement.{statement}
-use Rattle.numbers.proofs.say.say_starts.Tie as tie
+use Rattle.say.proofs.say_starts.Statement.{statement}
+use Rattle.say.proofs.say_starts.Tie as tie
 
 abbrev Inv-loop : tie.InvT-loop
 Inv-loop starts k₀ t4 k = k ≤ 16

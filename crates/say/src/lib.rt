@@ -11,6 +11,7 @@ use desk::Window;
 use libc::STDOUT_FILENO;
 use lines::words::Problem;
 use lines::words::What;
+use overload::write::Written;
 use requests::reader::Checked;
 use table::reader::Reading;
 use table::reader::Refusal;
@@ -22,7 +23,7 @@ pub fn say(words: &[u8]) {
     io::write_all(STDOUT_FILENO, words);
 }
 
-fn say_number(n: u64) {
+pub fn say_number(n: u64) {
     io::print_decimal(STDOUT_FILENO, n);
 }
 
@@ -43,7 +44,7 @@ fn say_signed(m: i64) {
     say_number(magnitude(m));
 }
 
-fn say_refusal(r: Refusal) {
+pub fn say_refusal(r: Refusal) {
     say(b"refused ");
     say_number(wide(r.number));
     say(b" ");
@@ -175,6 +176,28 @@ pub fn say_ending(e: Ending) {
     match e {
         Ending::Is(r) => say_replayed(r),
         Ending::Refused(no) => say_refusal(no),
+    }
+}
+
+fn say_byte(b: u8) {
+    say(&[text::hex_digit(b / 16), text::hex_digit(b % 16)]);
+}
+
+pub fn say_bytes(bytes: &[u8]) {
+    let mut i: usize = 0;
+    while i < bytes.len() {
+        say_byte(bytes[i]);
+        i += 1;
+    }
+}
+
+pub fn say_written(w: Written) {
+    match w {
+        Written::Bytes(n) => {
+            say(b"written ");
+            say_number(n as u64);
+        }
+        Written::Refused(no) => say_refusal(no),
     }
 }
 

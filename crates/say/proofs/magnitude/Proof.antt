@@ -1,8 +1,8 @@
--- `say::magnitude` meets its contract, by the laws of -1 - m.
+-- `magnitude` meets its contract, by the laws of -1 - m.
 -- Assumes nothing.
-use Rattle.numbers.proofs.Signed.{less-fits, less-casts, more-fits, more-is, whole-casts, whole-is}
-use Rattle.numbers.proofs.say.magnitude.Statement.{statement}
-use Rattle.numbers.proofs.say.magnitude.Tie as tie
+use Rattle.say.proofs.Signed.{less-fits, less-casts, more-fits, more-is, whole-casts, whole-is}
+use Rattle.say.proofs.magnitude.Statement.{statement}
+use Rattle.say.proofs.magnitude.Tie as tie
 
 sub-result : tie.Need-sub-result
 sub-result c = less-fits (c .before .fits .m) (c .if1 .taken)

@@ -1,0 +1,51 @@
+// The questions whose answer is written into a buffer.
+use overload::write::Written;
+ghost use Prim.Native.Nat.{_≤_};
+ghost use lib.ListN.{length};
+
+// The most bytes of a buffer.
+const MOST: usize = 2048;
+
+// The list in the first `size` bytes of a buffer, and then those bytes, whatever was answered.
+fn write_first(table: &[u8], buffer: &mut [u8], size: usize, place: usize)
+    requires { ⌜ size ≤ length (now buffer) ⌝ }
+{
+    let written = desk::write_overload(table, &mut buffer[..size], place);
+    say::say_written(written);
+    say::say(b" ");
+    say::say_bytes(&buffer[..size]);
+}
+
+// The overload list from a place of a buffer of `size` bytes, each of them ee before.
+pub fn write_into(table: &[u8], size: u64, place: u64) {
+    if (MOST as u64) < size {
+        say::say(b"cannot be asked: the buffer is longer than 2048 bytes");
+        return;
+    }
+    let mut space = [238u8; MOST];
+    write_first(table, &mut space, size as usize, place as usize);
+}
+
+// What the bench says of the list in the first n bytes.
+fn replay_first(table: &[u8], buffer: &[u8], n: usize)
+    requires { ⌜ n ≤ length (now buffer) ⌝ }
+{
+    say::say(b"records=");
+    say::say_number((n / 8) as u64);
+    say::say(b" ");
+    say::say_ending(desk::replay(table, &buffer[..n]));
+}
+
+fn write_then_replay(table: &[u8], buffer: &mut [u8]) {
+    let written = desk::write_overload(table, buffer, 0);
+    match written {
+        Written::Bytes(n) => replay_first(table, buffer, n),
+        Written::Refused(no) => say::say_refusal(no),
+    }
+}
+
+// The overload list, handed to the bench.
+pub fn write_and_replay(table: &[u8]) {
+    let mut space = [238u8; MOST];
+    write_then_replay(table, &mut space);
+}

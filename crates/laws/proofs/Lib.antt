@@ -2,6 +2,7 @@ pub mod Cases
 pub mod Countdown
 pub mod Every
 pub mod Fill
+pub mod LastLaws
 pub mod LeastLaws
 pub mod PeakLaws
 pub mod PlaceLaws

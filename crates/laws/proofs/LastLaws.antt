@@ -1,0 +1,68 @@
+-- Laws of the search for the last number that passes: how many numbers go up to it.
+-- Assumes nothing.
+use mathlib.Core.Bool.{Bool, true, false}
+use mathlib.Core.Path.{_≡_, refl, sym, _∙_, ap}
+use mathlib.Core.Logic.{inl, inr}
+use Prim.Native.Nat.{ℕ, zero, suc, _≤_, _<_}
+use native.Mathlib.Nat.{le-refl, le-step}
+use native.Mathlib.Omega.{arith}
+use Rattle.laws.specs.Search.{up-to-last}
+use Rattle.laws.proofs.Cases.{lt-or-le, lt-or-last}
+
+-- number m passes, and is one of those tried
+pub record Hit (test : ℕ → Bool) (n m : ℕ) : Type 0 where
+  pub passes : test m ≡ true
+  pub within : m < n
+
+module _ (test : ℕ → Bool) where
+  pub last-none : up-to-last test 0 ≡ 0
+  unfolding up-to-last
+  last-none = refl
+
+  pub last-hit : (n : ℕ) → test n ≡ true → up-to-last test (suc n) ≡ suc n
+  unfolding up-to-last
+  last-hit n passes = rw (passes, up-to-last)
+
+  pub last-miss : (n : ℕ) → test n ≡ false → up-to-last test (suc n) ≡ up-to-last test n
+  unfolding up-to-last
+  last-miss n fails = rw (fails, up-to-last)
+
+  -- numbers that fail change nothing
+  pub last-longer : (n m : ℕ) → n ≤ m → ((j : ℕ) → n ≤ j → j < m → test j ≡ false)
+      → up-to-last test m ≡ up-to-last test n
+  last-longer n zero longer fail = ap (up-to-last test) (omega arith)
+  last-longer n (suc m) longer fail =
+      elim (lt-or-le m n) [
+        | inl less ↦ ap (up-to-last test) (same less)
+        | inr more ↦ last-miss m (fail m more (le-refl (suc m)))
+            ∙ last-longer n m more (λ j low high. fail j low (le-step high))
+      ]
+    where
+      same : m < n → suc m ≡ n
+      same less = omega arith
+
+  -- the last of them passes
+  pub last-passes : (n m : ℕ) → up-to-last test n ≡ suc m → Hit test n m
+  last-passes zero m found = absurd (omega (arith, last-none))
+  last-passes (suc n) m found = which (test n) refl (last-passes n m)
+    where
+      which : (x : Bool) → test n ≡ x → (up-to-last test n ≡ suc m → Hit test n m) → Hit test (suc n) m
+      which true passes rest =
+          let here : m ≡ n = omega (arith, last-hit n passes) in
+          record { passes = ap test here ∙ passes; within = omega arith }
+      which false fails rest =
+          let before = rest (sym (last-miss n fails) ∙ found) in
+          record { passes = before .passes; within = le-step (before .within) }
+
+  -- and none after it does
+  pub last-past : (n j : ℕ) → up-to-last test n ≤ j → j < n → test j ≡ false
+  last-past zero j past within = absurd (omega arith)
+  last-past (suc n) j past within = which (test n) refl (last-past n j)
+    where
+      which : (x : Bool) → test n ≡ x → (up-to-last test n ≤ j → j < n → test j ≡ false) → test j ≡ false
+      which true passes rest = absurd (omega (arith, last-hit n passes))
+      which false fails rest =
+          elim (lt-or-last j n within) [
+            | inl less ↦ rest (omega (arith, last-miss n fails)) less
+            | inr here ↦ ap test here ∙ fails
+          ]

@@ -91,6 +91,28 @@ sum-enough n (suc m) f h =
 pub sum-past : (n m : ℕ) (f : ℕ → ℕ) → n ≤ m → ((k : ℕ) → n ≤ k → f k ≡ 0) → sum m f ≡ sum n f
 sum-past n m f h none = omega (arith, sum-longer n m f h, sum-enough n m f none)
 
+-- one summand is larger by x, the others are the same
+pub sum-raised : (n k x : ℕ) (f g : ℕ → ℕ) → k < n → g k ≡ f k + x
+    → ((i : ℕ) → i < n → (i ≡ k → ⊥) → g i ≡ f i) → sum n g ≡ sum n f + x
+unfolding sum
+sum-raised zero k x f g inside raised others = absurd (omega arith)
+sum-raised (suc n) k x f g inside raised others =
+    elim (lt-or-last k n inside) [
+      | inl less ↦
+          omega (
+            arith,
+            sum-raised n k x f g less raised (λ i below. others i (omega arith)),
+            others n (omega arith) (λ here. omega arith),
+          )
+      | inr last ↦
+          omega (
+            arith,
+            sum-cong n g f (λ i below. others i (omega arith) (λ here. omega arith)),
+            ap f last,
+            ap g last,
+          )
+    ]
+
 -- ---- the greatest
 
 module _ (f : ℕ → ℕ) where

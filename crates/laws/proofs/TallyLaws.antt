@@ -24,6 +24,21 @@ module _ (test : ℕ → Bool) where
   pub tally-failed : (n : ℕ) → test n ≡ false → tally (suc n) test ≡ tally n test
   tally-failed n e = sum-suc n (λ i. only (test i) 1) ∙ rw e (omega arith)
 
+  -- numbers that fail are not counted
+  tally-longer : (n m : ℕ) → n ≤ m → ((j : ℕ) → n ≤ j → j < m → test j ≡ false) → tally m test ≡ tally n test
+  tally-longer n zero longer fail = ap (λ (k : ℕ). tally k test) (omega arith)
+  tally-longer n (suc m) longer fail =
+      elim (lt-or-last n (suc m) (omega arith)) [
+        | inl less ↦ tally-failed m (fail m (omega arith) (omega arith))
+            ∙ tally-longer n m (omega arith) (λ j low high. fail j low (omega arith))
+        | inr all ↦ ap (λ (k : ℕ). tally k test) (sym all)
+      ]
+
+  -- one that passes, and none after it
+  pub tally-next : (n m : ℕ) → n < m → test n ≡ true → ((j : ℕ) → n < j → j < m → test j ≡ false)
+      → tally m test ≡ tally n test + 1
+  tally-next n m more passes fail = tally-longer (suc n) m more fail ∙ tally-passed n passes
+
   pub tally-all : (n : ℕ) → ((j : ℕ) → j < n → test j ≡ true) → tally n test ≡ n
   tally-all zero all = sum-zero (λ i. only (test i) 1)
   tally-all (suc n) all =

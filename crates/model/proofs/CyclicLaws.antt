@@ -39,6 +39,14 @@ frame-on task s n = ap (λ (i : ℕ). i % task .count) one-more ∙ sym (mod-add
     one-more : s + suc n ≡ s + 1 + n
     one-more = omega arith
 
+-- and the frame after frame n of them is the next one of the task
+pub frame-next : (task : Task) (s n : ℕ) → frame task s (suc n) ≡ frame task (frame task s n) 1
+unfolding frame
+frame-next task s n = ap (λ (i : ℕ). i % task .count) one-more ∙ sym (mod-add-mod (s + n) (task .count) 1)
+  where
+    one-more : s + suc n ≡ s + n + 1
+    one-more = omega arith
+
 -- ---- offsets
 
 offset-none : (task : Task) (s : ℕ) → offset task s 0 ≡ 0

@@ -14,3 +14,5 @@ pub mod PickSame
 pub mod MachineLaws
 pub mod ReplayLaws
 pub mod JobsSame
+pub mod WovenLegal
+pub mod WovenSums

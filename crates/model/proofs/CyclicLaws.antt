@@ -7,7 +7,7 @@ use native.Mathlib.Nat.{zero-add, mod-lt, mod-eq-of-lt, mod-add-mod}
 use native.Mathlib.Omega.{arith}
 use lib.Dec.{leb}
 use Rattle.laws.specs.Sums.{sum, only}
-use Rattle.laws.proofs.Cases.{lt-or-le}
+use Rattle.laws.proofs.Cases.{lt-or-le, lt-or-last}
 use Rattle.laws.proofs.SumLaws.{gate, sum-head, sum-cong, sum-past}
 use Rattle.model.specs.Task.{Task}
 use Rattle.model.specs.Demand.{frame, offset, part, counted}
@@ -39,19 +39,34 @@ frame-on task s n = ap (λ (i : ℕ). i % task .count) one-more ∙ sym (mod-add
     one-more : s + suc n ≡ s + 1 + n
     one-more = omega arith
 
--- and the frame after frame n of them is the next one of the task
-pub frame-next : (task : Task) (s n : ℕ) → frame task s (suc n) ≡ frame task (frame task s n) 1
+-- after the n-th frame from s on comes the next of them
+pub frame-next : (task : Task) (s n : ℕ) → frame task (frame task s n) 1 ≡ frame task s (suc n)
 unfolding frame
-frame-next task s n = ap (λ (i : ℕ). i % task .count) one-more ∙ sym (mod-add-mod (s + n) (task .count) 1)
+frame-next task s n = mod-add-mod (s + n) (task .count) 1 ∙ ap (λ (i : ℕ). i % task .count) one-more
   where
-    one-more : s + suc n ≡ s + n + 1
+    one-more : s + n + 1 ≡ s + suc n
     one-more = omega arith
 
 -- ---- offsets
 
-offset-none : (task : Task) (s : ℕ) → offset task s 0 ≡ 0
+pub offset-none : (task : Task) (s : ℕ) → offset task s 0 ≡ 0
 unfolding offset
 offset-none task s = refl
+
+pub offset-next : (task : Task) (s n : ℕ) → offset task s (suc n) ≡ offset task s n + task .P (frame task s n)
+unfolding offset
+offset-next task s n = refl
+
+pub offset-mono : (task : Task) (s n m : ℕ) → n ≤ m → offset task s n ≤ offset task s m
+offset-mono task s n zero h = omega (arith, ap (offset task s) none)
+  where
+    none : n ≡ 0
+    none = omega arith
+offset-mono task s n (suc m) h =
+    elim (lt-or-last n (suc m) (omega arith)) [
+      | inl less ↦ omega (arith, offset-mono task s n m (omega arith), offset-next task s m)
+      | inr last ↦ omega (arith, ap (offset task s) last)
+    ]
 
 pub offset-on : (task : Task) (s n : ℕ) → s < task .count
     → offset task s (suc n) ≡ task .P s + offset task (frame task s 1) n

@@ -16,3 +16,6 @@ pub mod ReplayLaws
 pub mod JobsSame
 pub mod WovenLegal
 pub mod WovenSums
+pub mod DueLaws
+pub mod OverloadLaws
+pub mod OverloadVerdict

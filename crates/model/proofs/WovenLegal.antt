@@ -28,7 +28,7 @@ earliest-follows : (table : Table) (runs : Runs) (k n : ℕ)
 earliest-follows table runs k n =
     rw (add-one n)
     (record {
-      frame-is = frame-next (table .task k) (runs .start k) n;
+      frame-is = sym (frame-next (table .task k) (runs .start k) n);
       not-soon = earliest-run (table .task k) (runs .start k) (suc (suc n)) n (le-refl (suc (suc n)));
     })
 

@@ -1,0 +1,75 @@
+-- The overload list asks of the time up to t the demand at t, has a request where there is a demand, and none that
+-- comes at t or later. Nothing is used of the list but that it is woven from the overload's runs.
+-- Assumes nothing.
+use mathlib.Core.Path.{_≡_, refl, _∙_}
+use mathlib.Core.Logic.{inl, inr}
+use Prim.Native.Nat.{ℕ, suc, _+_, _≤_, _<_}
+use native.Mathlib.Omega.{arith}
+use lib.Dec.{leb, eqb}
+use borrow.Author.Tests.{eq-eqb}
+use Rattle.laws.specs.Sums.{sum, only}
+use Rattle.laws.proofs.Cases.{lt-or-le}
+use Rattle.laws.proofs.SumLaws.{sum-zero, sum-cong, sum-longer}
+use Rattle.laws.proofs.TallyLaws.{tally-passed}
+use Rattle.model.specs.Task.{Table, ProperTable}
+use Rattle.model.specs.Demand.{part, demand, all-demands}
+use Rattle.model.specs.Verdict.{start}
+use Rattle.model.specs.Request.{Request, Requests, of-task}
+use Rattle.model.specs.Jobs.{jobs-of}
+use Rattle.model.specs.Weave.{Runs, Woven}
+use Rattle.model.specs.Overload.{requests-by, overload-runs, asked-by}
+use Rattle.model.proofs.StartLaws.{start-right}
+use Rattle.model.proofs.DueLaws.{run-near, requests-counted}
+use Rattle.model.proofs.WovenSums.{woven-sum}
+
+-- a request in the list is one of those that its task makes
+turn-below : {table : Table} {runs : Runs} {list : Requests} → Woven table runs list → (i : ℕ) → i < list .count
+    → of-task list (list .request i .task) i < runs .many (list .request i .task)
+turn-below {list = list} woven i inside =
+    let k = list .request i .task in
+    omega (
+      arith,
+      tally-passed (λ j. eqb (list .request j .task) k) i (eq-eqb k k refl),
+      sum-longer (suc i) (list .count) (λ j. only (eqb (list .request j .task) k) 1) inside,
+      woven .all k (woven .known i inside),
+    )
+
+module _ {table : Table} (good : ProperTable table) (t : ℕ) where
+  pub overload-inside : (k : ℕ) → k < table .tasks → start (table .task k) t < table .task k .count
+  overload-inside k inside = start-right (table .task k) t (good .proper k inside .some) .inside
+
+  -- what the requests of task k ask of the time up to t: its demand
+  abbrev share : ℕ → ℕ
+  share k = let task = table .task k in sum (requests-by task (start task t) t) (part task (task .D) t (start task t))
+
+  share-is : (k : ℕ) → k < table .tasks → share k ≡ demand (table .task k) t
+  share-is k inside =
+      let proper = good .proper k inside in
+      requests-counted proper (start (table .task k) t) t ∙ start-right (table .task k) t (proper .some) .gives
+
+  module _ (list : Requests) (woven : Woven table (overload-runs table t) list) where
+    pub overload-asks : asked-by (jobs-of table list) t ≡ all-demands table t
+    unfolding asked-by all-demands
+    overload-asks =
+        woven-sum woven asks ∙ sum-cong (table .tasks) share (λ k. demand (table .task k) t) share-is
+      where
+        asks : Request → ℕ
+        asks r =
+            let task = table .task (r .task) in only (leb (r .arrival + task .D (r .frame)) t) (task .E (r .frame))
+
+    -- no request asks nothing
+    pub overload-some : 0 < all-demands table t → 0 < list .count
+    unfolding asked-by
+    overload-some some =
+        elim (lt-or-le 0 (list .count))
+        [ inl more ↦ more | inr none ↦ absurd (omega (arith, overload-asks, asks-none none)) ]
+      where
+        asks-none : list .count ≤ 0 → asked-by (jobs-of table list) t ≡ 0
+        asks-none none = let empty : list .count ≡ 0 = omega arith in rw empty (sum-zero _)
+
+    pub overload-near : (i : ℕ) → i < list .count → list .request i .arrival < t
+    overload-near i inside =
+        let k = list .request i .task in
+        rw (woven .in-turn i inside)
+        (run-near (good .proper k (woven .known i inside)) (start (table .task k) t) t (of-task list k i)
+        (turn-below woven i inside))

@@ -23,7 +23,7 @@ unfolding requests-by
 last-due task s t m last = leb-true _ _ (last-passes (due-by task s t) (suc t) m last .passes)
 
 module _ {task : Task} (proper : Proper task) (s t : ℕ) where
-  -- the others come no later than it, and it has a time to be done in
+  -- none comes after the last, whose D is at least 1
   pub run-near : (n : ℕ) → n < requests-by task s t → offset task s n < t
   run-near n inside = which (requests-by task s t) refl inside
     where

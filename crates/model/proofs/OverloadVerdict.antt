@@ -1,5 +1,5 @@
--- What the overload list takes from the verdict `overloaded`: its t is in range and asks more than there is time for, and
--- its start frames are those of the definition.
+-- What the overload list takes from the verdict `overloaded`: its t is in range and asks more than there is time for,
+-- and its start frames are those of the definition.
 -- Assumes nothing.
 use mathlib.Core.Bool.{true≢false}
 use mathlib.Core.Path.{_≡_, sym, _∙_, subst}

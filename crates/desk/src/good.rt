@@ -14,10 +14,10 @@ ghost use Rattle.desk.specs.Questions.{one-task, margin-asked, window-as
 ghost use Rattle.desk.specs.Written.{refusal, amount-of, spare-of, window-of, judgement-of};
 
 // The greatest t, and the greatest window, that is asked about or searched.
-const HORIZON: u64 = 65536;
+pub const HORIZON: u64 = 65536;
 
 // A refusal that carries no record.
-fn refuse(number: u8) -> Refusal
+pub fn refuse(number: u8) -> Refusal
     ensures { λ r. ⌜ r ≡ refusal number 0 ⌝ }
 {
     Refusal { number, index: 0 }

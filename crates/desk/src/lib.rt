@@ -2,9 +2,11 @@
 // An answer is the value (`Is`, for bytes `Table` or `Legal`), or `Refused` with the refusal's number and record index.
 mod good;
 mod lists;
+mod writer;
 
 use bench::replay::Replayed;
 use bench::state::Bench;
+use overload::write::Written;
 use requests::reader::Checked;
 use table::reader::Reading;
 use table::reader::Refusal;
@@ -15,6 +17,8 @@ ghost use Rattle.table.specs.Reader.{reading-of};
 ghost use Rattle.sums.specs.Sized.{most-by};
 ghost use Rattle.desk.specs.Questions.{one-task, demand-asked, work-asked, margin-asked, window-asked, verdict-asked};
 ghost use Rattle.desk.specs.Questions.{list-asked, replay-asked};
+ghost use Rattle.overload.specs.Place.{Wrote};
+ghost use Rattle.desk.specs.Writing.{overload-asked};
 ghost use Rattle.desk.specs.Written.{amount-of, spare-of, window-of, judgement-of, checked-of, ending-of, loading-of};
 
 pub enum Amount {
@@ -121,6 +125,21 @@ pub fn judge(s: &[u8]) -> Judged
         };
     };
     good::judge_in(s, shape)
+}
+
+// The overload list of the table, written into a buffer from a place on. The answer is how many bytes were written, or
+// the refusal, and then no byte of the buffer is changed.
+pub fn write_overload<'a, 'b>(s: &'a [u8], buffer: &'b mut [u8], place: usize) -> Written
+    ensures { λ r. ⌜
+        Wrote (now (buffer .entry)) place (overload-asked (now (s .entry)) (now (buffer .entry)) place) r
+        (now (buffer .exit))
+        ⌝ }
+{
+    let reading = table::reader::read_table(s);
+    let Reading::Table(shape) = reading else {
+        return Written::Refused(table::reader::refusal_of(reading));
+    };
+    writer::write_in(s, shape, buffer, place)
 }
 
 // What the bytes are as a request list of the table.

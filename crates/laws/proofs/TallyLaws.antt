@@ -5,9 +5,11 @@ use mathlib.Core.Path.{_≡_, refl, sym, ap, _∙_}
 use mathlib.Core.Logic.{inl, inr}
 use Prim.Native.Nat.{ℕ, zero, suc, _+_, _≤_, _<_}
 use native.Mathlib.Omega.{arith}
-use Rattle.laws.specs.Sums.{only, tally}
+use lib.Dec.{eqb}
+use borrow.Author.Tests.{eq-eqb, ne-eqb}
+use Rattle.laws.specs.Sums.{sum, only, tally}
 use Rattle.laws.proofs.Cases.{lt-or-last}
-use Rattle.laws.proofs.SumLaws.{sum-suc, sum-zero}
+use Rattle.laws.proofs.SumLaws.{sum-suc, sum-zero, sum-none, sum-cong, sum-+}
 
 only-one : (t : Bool) → only t 1 ≤ 1
 only-one true = omega arith
@@ -44,6 +46,9 @@ module _ (test : ℕ → Bool) where
   tally-all (suc n) all =
       omega (arith, tally-passed n (all n (omega arith)), tally-all n (λ j below. all j (omega arith)))
 
+  tally-none : (n : ℕ) → ((j : ℕ) → j < n → test j ≡ false) → tally n test ≡ 0
+  tally-none n none = sum-none n (λ i. only (test i) 1) (λ j below. rw (none j below))
+
 -- the count is the place up to which a test passes
 pub record Up-to (test : ℕ → Bool) (n place : ℕ) : Type 0 where
   pub below : (j : ℕ) → j < n → test j ≡ true → j < place
@@ -78,3 +83,35 @@ tally-place test (suc n) falls =
     which : (t : Bool) → test n ≡ t → Up-to test n (tally n test) → Up-to test (suc n) (tally (suc n) test)
     which true last rest = place-passed test n (λ j order. falls j n order (omega arith) last)
     which false last rest = place-failed test n last rest
+
+-- ---- how often each number comes
+
+-- among 0, .., n - 1 each number comes once
+tally-one : (n k : ℕ) → k < n → tally n (eqb k) ≡ 1
+tally-one zero k below = absurd (omega arith)
+tally-one (suc n) k below =
+    elim (lt-or-last k n below) [
+      | inl less ↦ tally-failed (eqb k) n (ne-eqb k n (λ same. omega arith)) ∙ tally-one n k less
+      | inr last ↦ omega (
+        arith,
+        tally-passed (eqb k) n (eq-eqb k n last),
+        tally-none (eqb k) n (λ j less. ne-eqb k j (λ same. omega arith)),
+      )
+    ]
+
+-- of i numbers that are all below n, each is counted with its equals
+pub tally-shares : (n i : ℕ) (f : ℕ → ℕ) → ((j : ℕ) → j < i → f j < n)
+    → sum n (λ k. tally i (λ j. eqb (f j) k)) ≡ i
+tally-shares n zero f below = sum-none n (λ k. tally 0 (λ j. eqb (f j) k)) (λ k inside. sum-zero _)
+tally-shares n (suc i) f below =
+    omega (
+      arith,
+      sum-cong n (λ k. tally (suc i) (λ j. eqb (f j) k)) (λ k. so-far k + only (eqb (f i) k) 1)
+          (λ k inside. sum-suc i (λ j. only (eqb (f j) k) 1)),
+      sum-+ n so-far (λ k. only (eqb (f i) k) 1),
+      tally-one n (f i) (below i (omega arith)),
+      tally-shares n i f (λ j less. below j (omega arith)),
+    )
+  where
+    so-far : ℕ → ℕ
+    so-far k = tally i (λ j. eqb (f j) k)

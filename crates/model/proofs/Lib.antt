@@ -19,3 +19,4 @@ pub mod WovenSums
 pub mod DueLaws
 pub mod OverloadLaws
 pub mod OverloadVerdict
+pub mod WeaveLaws

@@ -84,7 +84,7 @@ module _ (key : ℕ → ℕ) {rest : Order} (by-rest : Strict rest) where
       }
 
 -- the order by a key alone
-key-strict : (key : ℕ → ℕ) → Strict (λ i j. ltb (key i) (key j))
+pub key-strict : (key : ℕ → ℕ) → Strict (λ i j. ltb (key i) (key j))
 key-strict key =
     record {
       irreflexive = λ i. le-ltb (key i) (key i) (le-refl (key i));

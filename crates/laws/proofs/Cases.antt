@@ -1,7 +1,7 @@
 -- Orders and equalities of two numbers by cases.
 -- Assumes nothing.
 use mathlib.Core.Bool.{Bool, true, false}
-use mathlib.Core.Path.{_≡_, refl}
+use mathlib.Core.Path.{_≡_, refl, sym, subst}
 use mathlib.Core.Logic.{_⊎_, inl, inr}
 use Prim.Native.Nat.{ℕ, suc, _≤_, _<_}
 use native.Mathlib.Omega.{arith}
@@ -18,6 +18,11 @@ lt-or-le a b = which (ltb a b) refl
 -- below suc b: below b, or b itself
 pub lt-or-last : (a b : ℕ) → a < suc b → (a < b) ⊎ (a ≡ b)
 lt-or-last a b h = elim (lt-or-le a b) [ inl less ↦ inl less | inr more ↦ inr (omega arith) ]
+
+-- what holds below n and at n holds below suc n
+pub below-suc : (P : ℕ → Type 0) (n : ℕ) → ((j : ℕ) → j < n → P j) → P n → (j : ℕ) → j < suc n → P j
+below-suc P n each here j below =
+    elim (lt-or-last j n below) [ inl less ↦ each j less | inr last ↦ subst P (sym last) here ]
 
 -- neither of two numbers is the lower
 pub neither-lower : (a b : ℕ) → (a < b → ⊥) → (b < a → ⊥) → a ≡ b

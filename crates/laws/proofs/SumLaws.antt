@@ -9,7 +9,7 @@ use native.Mathlib.Omega.{arith}
 use lib.Dec.{leb}
 use borrow.Author.Tests.{le-leb, lt-leb}
 use Rattle.laws.specs.Sums.{sum, only, greatest}
-use Rattle.laws.proofs.Cases.{lt-or-le, lt-or-last}
+use Rattle.laws.proofs.Cases.{lt-or-le, lt-or-last, below-suc}
 
 -- ---- the gate
 
@@ -91,6 +91,7 @@ sum-enough n (suc m) f h =
 pub sum-past : (n m : ℕ) (f : ℕ → ℕ) → n ≤ m → ((k : ℕ) → n ≤ k → f k ≡ 0) → sum m f ≡ sum n f
 sum-past n m f h none = omega (arith, sum-longer n m f h, sum-enough n m f none)
 
+
 -- one summand is larger by x, the others are the same
 pub sum-raised : (n k x : ℕ) (f g : ℕ → ℕ) → k < n → g k ≡ f k + x
     → ((i : ℕ) → i < n → (i ≡ k → ⊥) → g i ≡ f i) → sum n g ≡ sum n f + x
@@ -112,6 +113,23 @@ sum-raised (suc n) k x f g inside raised others =
             ap g last,
           )
     ]
+
+-- two sums are equal only if each part is, where no part is the larger in the one
+pub sum-tight : (n : ℕ) (f g : ℕ → ℕ) → ((k : ℕ) → k < n → f k ≤ g k) → sum n f ≡ sum n g
+    → (k : ℕ) → k < n → f k ≡ g k
+sum-tight zero f g most same = λ k less. absurd (omega arith)
+sum-tight (suc n) f g most same =
+    below-suc (λ k. f k ≡ g k) n (sum-tight n f g before (omega (arith, parts, here, sum-mono n f g before)))
+    (omega (arith, parts, here, sum-mono n f g before))
+  where
+    before : (k : ℕ) → k < n → f k ≤ g k
+    before k less = most k (omega arith)
+
+    here : f n ≤ g n
+    here = most n (omega arith)
+
+    parts : sum n f + f n ≡ sum n g + g n
+    parts = sym (sum-suc n f) ∙ same ∙ sum-suc n g
 
 -- ---- the greatest
 

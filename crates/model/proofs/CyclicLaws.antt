@@ -75,12 +75,15 @@ offset-on task s zero inside = omega (arith, ap (task .P) (frame-none task s ins
 offset-on task s (suc n) inside = omega (arith, offset-on task s n inside, ap (task .P) (frame-on task s n))
 
 module _ {task : Task} {reach : ℕ → ℕ} (moves : Moves task reach) where
+  -- the next frame comes later
+  pub offset-rises : (s n : ℕ) → offset task s n < offset task s (suc n)
+  unfolding offset
+  offset-rises s n = omega (arith, moves .gap (frame task s n) (frame-lt task (moves .some) s n))
+
   -- why t + 1 turns are every frame: the frame of turn n comes at n or later
   pub offset-late : (s n : ℕ) → n ≤ offset task s n
-  unfolding offset
   offset-late s zero = omega arith
-  offset-late s (suc n) =
-      omega (arith, offset-late s n, moves .gap (frame task s n) (frame-lt task (moves .some) s n))
+  offset-late s (suc n) = omega (arith, offset-late s n, offset-rises s n)
 
   -- ---- the sum
 

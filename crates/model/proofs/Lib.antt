@@ -19,4 +19,6 @@ pub mod WovenSums
 pub mod DueLaws
 pub mod OverloadLaws
 pub mod OverloadVerdict
+pub mod PickLeast
 pub mod WeaveLaws
+pub mod WeaveWoven

@@ -20,12 +20,12 @@ pub record Strict (before : Order) : Type 0 where
 -- ---- the smaller first
 
 -- how two numbers compare
-data Compared (x y : ℕ) : Type 0 where
+pub data Compared (x y : ℕ) : Type 0 where
   below : x < y → Compared x y
   equal : x ≡ y → Compared x y
   above : y < x → Compared x y
 
-compare : (x y : ℕ) → Compared x y
+pub compare : (x y : ℕ) → Compared x y
 compare x y =
     elim (lt-or-le x y) [
       | inl less ↦ below less

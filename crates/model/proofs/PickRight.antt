@@ -1,13 +1,12 @@
 -- What `pick` answers: the first in the order of those that pass, and nothing exactly where none passes.
 -- Assumes nothing.
-use mathlib.Core.Path.{_≡_, refl, sym, _∙_, subst}
-use mathlib.Core.Logic.{inl, inr}
+use mathlib.Core.Path.{_≡_, refl, sym, _∙_}
 use mathlib.Core.Bool.{Bool, true, false, cond, false≢true}
 use Prim.Native.Nat.{ℕ, zero, suc, _<_}
 use native.Mathlib.Omega.{arith}
 use native.Mathlib.Nat.{le-refl, le-step}
 use Rattle.laws.specs.Search.{Found, at, nowhere}
-use Rattle.laws.proofs.Cases.{lt-or-last}
+use Rattle.laws.proofs.Cases.{below-suc}
 use Rattle.model.specs.Machine.{Order, first-of, pick}
 use Rattle.model.proofs.PickLaws.{pick-start, pick-skips, pick-tries}
 use Rattle.model.proofs.OrderLaws.{Strict}
@@ -30,11 +29,6 @@ Picked test before n nowhere = None-below test n
 is-false : (x : Bool) → (x ≡ true → ⊥) → x ≡ false
 is-false true never = absurd (never refl)
 is-false false never = refl
-
--- what holds below n and at n holds below suc n
-below-suc : (P : ℕ → Type 0) (n : ℕ) → ((j : ℕ) → j < n → P j) → P n → (j : ℕ) → j < suc n → P j
-below-suc P n each here j below =
-    elim (lt-or-last j n below) [ inl less ↦ each j less | inr last ↦ subst P (sym last) here ]
 
 module _ (test : ℕ → Bool) (before : Order) where
   -- ---- one number more: the first so far stays, or n takes its place

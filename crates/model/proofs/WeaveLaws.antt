@@ -1,23 +1,22 @@
 -- Laws of the weave: its turns, that every turn finds a request left, and that no task's requests are taken twice.
 -- Assumes nothing.
-use mathlib.Core.Path.{_≡_, refl, sym, _∙_, ap, subst}
-use mathlib.Core.Logic.{inl, inr}
+use mathlib.Core.Path.{_≡_, refl, sym, _∙_, ap}
 use Prim.Native.Nat.{ℕ, zero, suc, _+_, _≤_, _<_}
 use native.Mathlib.Omega.{arith}
+use native.Mathlib.Nat.{le-refl}
 use native.Mathlib.Decide.{ℕ-discrete}
 use lib.Dec.{eqb}
 use borrow.Author.Tests.{ltb-true, ltb-false, eq-eqb, ne-eqb}
 use Rattle.laws.specs.Sums.{sum, only}
 use Rattle.laws.specs.Search.{Found, at, nowhere, place-or}
-use Rattle.laws.proofs.Cases.{lt-or-last}
-use Rattle.laws.proofs.SumLaws.{sum-zero, sum-suc, sum-cong, sum-mono}
+use Rattle.laws.proofs.Cases.{below-suc}
+use Rattle.laws.proofs.SumLaws.{sum-zero, sum-suc, sum-cong, sum-mono, sum-tight}
 use Rattle.laws.proofs.TallyLaws.{tally-shares}
 use Rattle.model.specs.Task.{Table}
 use Rattle.model.specs.Request.{of-task}
 use Rattle.model.specs.Machine.{pick}
 use Rattle.model.specs.Weave.{Runs, earliest, some-left, earlier, foremost, taken-by, next-at, weave}
-use Rattle.model.proofs.OrderLaws.{key-strict}
-use Rattle.model.proofs.PickRight.{First, Picked, pick-right}
+use Rattle.model.proofs.PickLeast.{Least-key, Picked-least, pick-least}
 
 module _ (table : Table) (runs : Runs) where
   -- the task of request i
@@ -66,20 +65,24 @@ module _ (table : Table) (runs : Runs) where
 
   -- ---- every turn finds a request
 
-  -- the task that is chosen has one left, and no other that has one goes before it
+  -- the arrival of each task's next request
+  abbrev pub next-arrival : (ℕ → ℕ) → ℕ → ℕ
+  next-arrival taken k = earliest table runs k (taken k) .arrival
+
+  -- the task that is chosen has one left, the earliest of all, that of the lower task at equal arrivals
   abbrev pub Chosen : (ℕ → ℕ) → Type 0
-  Chosen taken = First (some-left table runs taken) (earlier table runs taken) (table .tasks) (foremost table runs taken)
+  Chosen taken =
+      Least-key (some-left table runs taken) (next-arrival taken) (table .tasks) (foremost table runs taken)
 
   chosen-if : (taken : ℕ → ℕ) → sum (table .tasks) taken < sum (table .tasks) (runs .many) → Chosen taken
   unfolding foremost
   chosen-if taken more =
       which (pick (some-left table runs taken) (earlier table runs taken) (table .tasks))
-      (pick-right (some-left table runs taken) (earlier table runs taken)
-      (key-strict (λ k. earliest table runs k (taken k) .arrival)) (table .tasks))
+      (pick-least (some-left table runs taken) (next-arrival taken) (table .tasks))
     where
-      which : (r : Found) → Picked (some-left table runs taken) (earlier table runs taken) (table .tasks) r
-          → First (some-left table runs taken) (earlier table runs taken) (table .tasks) (place-or 0 r)
-      which (at k) first = first
+      which : (r : Found) → Picked-least (some-left table runs taken) (next-arrival taken) (table .tasks) r
+          → Least-key (some-left table runs taken) (next-arrival taken) (table .tasks) (place-or 0 r)
+      which (at k) least = least
       which nowhere none =
           absurd (omega (
             arith,
@@ -94,16 +97,11 @@ module _ (table : Table) (runs : Runs) where
       (λ j less. omega (arith, weave-task j, known j less))
 
   chosen-before : (i : ℕ) → i ≤ sum (table .tasks) (runs .many) → (j : ℕ) → j < i → Chosen (taken-by table runs j)
-  chosen-before zero within j less = absurd (omega arith)
-  chosen-before (suc i) within j less = which (chosen-before i (omega arith))
-    where
-      which : ((j : ℕ) → j < i → Chosen (taken-by table runs j)) → Chosen (taken-by table runs j)
-      which rest =
-          elim (lt-or-last j i less) [
-            | inl sooner ↦ rest j sooner
-            | inr last ↦ subst (λ (j : ℕ). Chosen (taken-by table runs j)) (sym last)
-                (chosen-if (taken-by table runs i) (omega (arith, taken-sum i (λ j sooner. rest j sooner .inside))))
-          ]
+  chosen-before zero within = λ j less. absurd (omega arith)
+  chosen-before (suc i) within =
+      let rest = chosen-before i (omega arith) in
+      below-suc (λ j. Chosen (taken-by table runs j)) i rest
+      (chosen-if (taken-by table runs i) (omega (arith, taken-sum i (λ j less. rest j less .inside))))
 
   pub chosen : (i : ℕ) → i < weave table runs .count → Chosen (taken-by table runs i)
   chosen i less = chosen-before (suc i) (omega (arith, weave-count)) i (omega arith)
@@ -129,3 +127,10 @@ module _ (table : Table) (runs : Runs) where
         )
         | no other ↦ omega (arith, taken-other i k other, taken-most i k (omega arith) inside)
       ]
+
+  -- at the end every task's requests are taken
+  pub taken-all : (k : ℕ) → k < table .tasks → taken-by table runs (weave table runs .count) k ≡ runs .many k
+  taken-all =
+      let end = weave table runs .count in
+      sum-tight (table .tasks) (taken-by table runs end) (runs .many)
+      (λ k inside. taken-most end k (le-refl end) inside) (taken-sum end foremost-lt ∙ weave-count)

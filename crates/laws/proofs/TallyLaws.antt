@@ -8,8 +8,8 @@ use native.Mathlib.Omega.{arith}
 use lib.Dec.{eqb}
 use borrow.Author.Tests.{eq-eqb, ne-eqb}
 use Rattle.laws.specs.Sums.{sum, only, tally}
-use Rattle.laws.proofs.Cases.{lt-or-last}
-use Rattle.laws.proofs.SumLaws.{sum-suc, sum-zero, sum-none, sum-cong, sum-+}
+use Rattle.laws.proofs.Cases.{lt-or-le, lt-or-last}
+use Rattle.laws.proofs.SumLaws.{sum-suc, sum-zero, sum-none, sum-cong, sum-longer, sum-+}
 
 only-one : (t : Bool) → only t 1 ≤ 1
 only-one true = omega arith
@@ -48,6 +48,49 @@ module _ (test : ℕ → Bool) where
 
   tally-none : (n : ℕ) → ((j : ℕ) → j < n → test j ≡ false) → tally n test ≡ 0
   tally-none n none = sum-none n (λ i. only (test i) 1) (λ j below. rw (none j below))
+
+-- the first from i on that passes, below n
+pub record Next-passing (test : ℕ → Bool) (i n : ℕ) : Type 0 where
+  pub place : ℕ
+  pub from : i ≤ place
+  pub below : place < n
+  pub passes : test place ≡ true
+  pub none : tally place test ≡ tally i test
+
+module _ (test : ℕ → Bool) where
+  next-last : (i n : ℕ) → tally i test < tally (suc n) test → tally n test ≤ tally i test → Next-passing test i (suc n)
+  next-last i n more none = which (test n) refl
+    where
+      which : (t : Bool) → test n ≡ t → Next-passing test i (suc n)
+      which false fails = absurd (omega (arith, tally-failed test n fails))
+      which true passes =
+          record {
+            place = n;
+            from = elim (lt-or-le n i) [
+              | inl past ↦ absurd (omega (arith, sum-longer (suc n) i (λ j. only (test j) 1) past))
+              | inr within ↦ within
+            ];
+            below = omega arith;
+            passes = passes;
+            none = omega (arith, tally-passed test n passes);
+          }
+
+  -- where the count grows there is one
+  pub tally-next : (i n : ℕ) → tally i test < tally n test → Next-passing test i n
+  tally-next i zero more = absurd (omega (arith, sum-zero (λ j. only (test j) 1)))
+  tally-next i (suc n) more =
+      elim (lt-or-le (tally i test) (tally n test)) [
+        | inl sooner ↦
+            let found = tally-next i n sooner in
+            record {
+              place = found .place;
+              from = found .from;
+              below = omega (arith, found .below);
+              passes = found .passes;
+              none = found .none;
+            }
+        | inr none ↦ next-last i n more none
+      ]
 
 -- the count is the place up to which a test passes
 pub record Up-to (test : ℕ → Bool) (n place : ℕ) : Type 0 where

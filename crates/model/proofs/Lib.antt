@@ -22,3 +22,4 @@ pub mod OverloadVerdict
 pub mod PickLeast
 pub mod WeaveLaws
 pub mod WeaveWoven
+pub mod WovenOne

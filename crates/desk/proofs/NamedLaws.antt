@@ -38,7 +38,7 @@ use Rattle.overload.specs.Place.{placed, buffer-after}
 use Rattle.desk.specs.Questions.{on-table, demand-asked, verdict-asked, replay-asked}
 use Rattle.desk.specs.Writing.{on-overload, list-at, overload-asked}
 use Rattle.desk.specs.Tables.{A, B, B-list, K7-task, four, twenty}
-use Rattle.desk.specs.Named.{Question, demand-of, verdict-on, replay-with, overload-into, Leaves, Said, said, Row, named}
+use Rattle.desk.specs.Named.{Question, demand-of, verdict-on, replay-with, overload-into, Said, said, Row, named}
 use Rattle.desk.proofs.SameLaws.{same-int, same-list, same-verdict, same-replay, same-answer, same-left, same-said, same-said-is}
 
 -- the overload list, where the walk gives the verdict

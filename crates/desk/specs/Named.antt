@@ -10,7 +10,7 @@ use Rattle.model.specs.Answer.{Answer, answered, refused}
 use Rattle.overload.specs.Place.{buffer-after}
 use Rattle.desk.specs.Questions.{demand-asked, verdict-asked, replay-asked}
 use Rattle.desk.specs.Writing.{overload-asked}
-use Rattle.desk.specs.Tables.{rec, sporadic, A, B, B-list, K7-task, four, twenty}
+use Rattle.desk.specs.Tables.{sporadic, A, B, B-list, K7-task, four, twenty}
 
 -- ---- what is asked, and what is said
 

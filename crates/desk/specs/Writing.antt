@@ -6,7 +6,7 @@ use mathlib.Core.List.{List}
 use Rattle.model.specs.Task.{Table}
 use Rattle.model.specs.Verdict.{horizon, Verdict, overloaded, fits, undecided, verdict}
 use Rattle.model.specs.Overload.{overload-list}
-use Rattle.model.specs.Answer.{Answer, answered, refused}
+use Rattle.model.specs.Answer.{Answer, refused}
 use Rattle.requests.specs.Entry.{bytes-of}
 use Rattle.overload.specs.Place.{placed}
 use Rattle.desk.specs.Questions.{on-table}

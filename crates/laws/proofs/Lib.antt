@@ -12,5 +12,7 @@ pub mod SearchLaws
 pub mod SignedLaws
 pub mod SignedOrder
 pub mod SumLaws
+pub mod SumParts
 pub mod TallyLaws
+pub mod TallyNext
 pub mod Tests

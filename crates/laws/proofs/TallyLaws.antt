@@ -5,11 +5,9 @@ use mathlib.Core.Path.{_≡_, refl, sym, ap, _∙_}
 use mathlib.Core.Logic.{inl, inr}
 use Prim.Native.Nat.{ℕ, zero, suc, _+_, _≤_, _<_}
 use native.Mathlib.Omega.{arith}
-use lib.Dec.{eqb}
-use borrow.Author.Tests.{eq-eqb, ne-eqb}
-use Rattle.laws.specs.Sums.{sum, only, tally}
-use Rattle.laws.proofs.Cases.{lt-or-le, lt-or-last}
-use Rattle.laws.proofs.SumLaws.{sum-suc, sum-zero, sum-none, sum-cong, sum-longer, sum-+}
+use Rattle.laws.specs.Sums.{only, tally}
+use Rattle.laws.proofs.Cases.{lt-or-last}
+use Rattle.laws.proofs.SumLaws.{sum-suc, sum-zero, sum-none}
 
 only-one : (t : Bool) → only t 1 ≤ 1
 only-one true = omega arith
@@ -37,60 +35,17 @@ module _ (test : ℕ → Bool) where
       ]
 
   -- one that passes, and none after it
-  pub tally-next : (n m : ℕ) → n < m → test n ≡ true → ((j : ℕ) → n < j → j < m → test j ≡ false)
+  pub tally-last : (n m : ℕ) → n < m → test n ≡ true → ((j : ℕ) → n < j → j < m → test j ≡ false)
       → tally m test ≡ tally n test + 1
-  tally-next n m more passes fail = tally-longer (suc n) m more fail ∙ tally-passed n passes
+  tally-last n m more passes fail = tally-longer (suc n) m more fail ∙ tally-passed n passes
 
   pub tally-all : (n : ℕ) → ((j : ℕ) → j < n → test j ≡ true) → tally n test ≡ n
   tally-all zero all = sum-zero (λ i. only (test i) 1)
   tally-all (suc n) all =
       omega (arith, tally-passed n (all n (omega arith)), tally-all n (λ j below. all j (omega arith)))
 
-  tally-none : (n : ℕ) → ((j : ℕ) → j < n → test j ≡ false) → tally n test ≡ 0
+  pub tally-none : (n : ℕ) → ((j : ℕ) → j < n → test j ≡ false) → tally n test ≡ 0
   tally-none n none = sum-none n (λ i. only (test i) 1) (λ j below. rw (none j below))
-
--- the first from i on that passes, below n
-pub record Next-passing (test : ℕ → Bool) (i n : ℕ) : Type 0 where
-  pub place : ℕ
-  pub from : i ≤ place
-  pub below : place < n
-  pub passes : test place ≡ true
-  pub none : tally place test ≡ tally i test
-
-module _ (test : ℕ → Bool) where
-  next-last : (i n : ℕ) → tally i test < tally (suc n) test → tally n test ≤ tally i test → Next-passing test i (suc n)
-  next-last i n more none = which (test n) refl
-    where
-      which : (t : Bool) → test n ≡ t → Next-passing test i (suc n)
-      which false fails = absurd (omega (arith, tally-failed test n fails))
-      which true passes =
-          record {
-            place = n;
-            from = elim (lt-or-le n i) [
-              | inl past ↦ absurd (omega (arith, sum-longer (suc n) i (λ j. only (test j) 1) past))
-              | inr within ↦ within
-            ];
-            below = omega arith;
-            passes = passes;
-            none = omega (arith, tally-passed test n passes);
-          }
-
-  -- where the count grows there is one
-  pub tally-next : (i n : ℕ) → tally i test < tally n test → Next-passing test i n
-  tally-next i zero more = absurd (omega (arith, sum-zero (λ j. only (test j) 1)))
-  tally-next i (suc n) more =
-      elim (lt-or-le (tally i test) (tally n test)) [
-        | inl sooner ↦
-            let found = tally-next i n sooner in
-            record {
-              place = found .place;
-              from = found .from;
-              below = omega (arith, found .below);
-              passes = found .passes;
-              none = found .none;
-            }
-        | inr none ↦ next-last i n more none
-      ]
 
 -- the count is the place up to which a test passes
 pub record Up-to (test : ℕ → Bool) (n place : ℕ) : Type 0 where
@@ -126,35 +81,3 @@ tally-place test (suc n) falls =
     which : (t : Bool) → test n ≡ t → Up-to test n (tally n test) → Up-to test (suc n) (tally (suc n) test)
     which true last rest = place-passed test n (λ j order. falls j n order (omega arith) last)
     which false last rest = place-failed test n last rest
-
--- ---- how often each number comes
-
--- among 0, .., n - 1 each number comes once
-tally-one : (n k : ℕ) → k < n → tally n (eqb k) ≡ 1
-tally-one zero k below = absurd (omega arith)
-tally-one (suc n) k below =
-    elim (lt-or-last k n below) [
-      | inl less ↦ tally-failed (eqb k) n (ne-eqb k n (λ same. omega arith)) ∙ tally-one n k less
-      | inr last ↦ omega (
-        arith,
-        tally-passed (eqb k) n (eq-eqb k n last),
-        tally-none (eqb k) n (λ j less. ne-eqb k j (λ same. omega arith)),
-      )
-    ]
-
--- of i numbers that are all below n, each is counted with its equals
-pub tally-shares : (n i : ℕ) (f : ℕ → ℕ) → ((j : ℕ) → j < i → f j < n)
-    → sum n (λ k. tally i (λ j. eqb (f j) k)) ≡ i
-tally-shares n zero f below = sum-none n (λ k. tally 0 (λ j. eqb (f j) k)) (λ k inside. sum-zero _)
-tally-shares n (suc i) f below =
-    omega (
-      arith,
-      sum-cong n (λ k. tally (suc i) (λ j. eqb (f j) k)) (λ k. so-far k + only (eqb (f i) k) 1)
-          (λ k inside. sum-suc i (λ j. only (eqb (f j) k) 1)),
-      sum-+ n so-far (λ k. only (eqb (f i) k) 1),
-      tally-one n (f i) (below i (omega arith)),
-      tally-shares n i f (λ j less. below j (omega arith)),
-    )
-  where
-    so-far : ℕ → ℕ
-    so-far k = tally i (λ j. eqb (f j) k)

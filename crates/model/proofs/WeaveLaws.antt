@@ -10,8 +10,9 @@ use borrow.Author.Tests.{ltb-true, ltb-false, eq-eqb, ne-eqb}
 use Rattle.laws.specs.Sums.{sum, only}
 use Rattle.laws.specs.Search.{Found, at, nowhere, place-or}
 use Rattle.laws.proofs.Cases.{below-suc}
-use Rattle.laws.proofs.SumLaws.{sum-zero, sum-suc, sum-cong, sum-mono, sum-tight}
-use Rattle.laws.proofs.TallyLaws.{tally-shares}
+use Rattle.laws.proofs.SumLaws.{sum-zero, sum-suc, sum-cong, sum-mono}
+use Rattle.laws.proofs.SumParts.{sum-tight}
+use Rattle.laws.proofs.TallyNext.{tally-shares}
 use Rattle.model.specs.Task.{Table}
 use Rattle.model.specs.Request.{of-task}
 use Rattle.model.specs.Machine.{pick}

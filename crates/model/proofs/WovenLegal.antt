@@ -8,7 +8,7 @@ use native.Mathlib.Numerals.{add-one}
 use native.Mathlib.Omega.{arith}
 use lib.Dec.{eqb}
 use borrow.Author.Tests.{eq-eqb, ne-eqb}
-use Rattle.laws.proofs.TallyLaws.{tally-next}
+use Rattle.laws.proofs.TallyLaws.{tally-last}
 use Rattle.model.specs.Task.{Table, ProperTable}
 use Rattle.model.specs.Request.{Request, Requests, Same, of-task, Has-frame, Next, Follows, Legal, Sorted}
 use Rattle.model.specs.Weave.{Runs, earliest, Woven}
@@ -19,7 +19,7 @@ use Rattle.model.proofs.RunLaws.{earliest-run}
 next-turn : {list : Requests} {i j : ℕ} → Next list i j
     → of-task list (list .request j .task) j ≡ of-task list (list .request j .task) i + 1
 next-turn {list} {i} {j} next =
-    tally-next (λ m. eqb (list .request m .task) (list .request j .task)) i j (next .earlier) (eq-eqb _ _ (next .same))
+    tally-last (λ m. eqb (list .request m .task) (list .request j .task)) i j (next .earlier) (eq-eqb _ _ (next .same))
     (λ m after before. ne-eqb _ _ (next .between m after before))
 
 -- the earliest next request follows

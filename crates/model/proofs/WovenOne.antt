@@ -12,7 +12,8 @@ use borrow.Author.Tests.{eqb-true, eq-eqb}
 use Rattle.laws.specs.Sums.{sum, only}
 use Rattle.laws.proofs.Cases.{lt-or-le, lt-or-last, below-suc}
 use Rattle.laws.proofs.SumLaws.{sum-cong, sum-longer}
-use Rattle.laws.proofs.TallyLaws.{Next-passing, tally-passed, tally-next, tally-shares}
+use Rattle.laws.proofs.TallyLaws.{tally-passed}
+use Rattle.laws.proofs.TallyNext.{Next-passing, tally-next, tally-shares}
 use Rattle.model.specs.Task.{Table}
 use Rattle.model.specs.Request.{Request, Requests, Same, Before, Sorted, of-task}
 use Rattle.model.specs.Weave.{Runs, Woven, earliest}

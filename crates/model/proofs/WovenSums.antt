@@ -9,7 +9,8 @@ use native.Mathlib.Omega.{arith}
 use lib.Dec.{eqb}
 use borrow.Author.Tests.{eq-eqb, ne-eqb}
 use Rattle.laws.specs.Sums.{sum}
-use Rattle.laws.proofs.SumLaws.{sum-zero, sum-suc, sum-none, sum-cong, sum-raised}
+use Rattle.laws.proofs.SumLaws.{sum-zero, sum-suc, sum-none, sum-cong}
+use Rattle.laws.proofs.SumParts.{sum-raised}
 use Rattle.laws.proofs.TallyLaws.{tally-passed, tally-failed}
 use Rattle.model.specs.Task.{Table}
 use Rattle.model.specs.Request.{Request, Requests, of-task}

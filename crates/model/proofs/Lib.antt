@@ -23,3 +23,4 @@ pub mod PickLeast
 pub mod WeaveLaws
 pub mod WeaveWoven
 pub mod WovenOne
+pub mod WovenSame

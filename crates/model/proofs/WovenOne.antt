@@ -17,6 +17,7 @@ use Rattle.laws.proofs.TallyNext.{Next-passing, tally-next, tally-shares}
 use Rattle.model.specs.Task.{Table}
 use Rattle.model.specs.Request.{Request, Requests, Same, Before, Sorted, of-task}
 use Rattle.model.specs.Weave.{Runs, Woven, earliest}
+use Rattle.model.proofs.WovenSame.{Agree, of-task-same}
 
 -- ---- the order of requests
 
@@ -95,15 +96,6 @@ module _ {table : Table} {runs : Runs} {list : Requests} (woven : Woven table ru
           ∙ ap (earliest table runs k) (found .none)
 
 -- ---- two woven lists
-
--- they agree below i
-abbrev Agree : Requests → Requests → ℕ → Type 0
-Agree a b i = (j : ℕ) → j < i → a .request j ≡ b .request j
-
-of-task-same : (a b : Requests) (i : ℕ) → Agree a b i → (k : ℕ) → of-task a k i ≡ of-task b k i
-of-task-same a b i agree k =
-    sum-cong i (λ j. only (eqb (a .request j .task) k) 1) (λ j. only (eqb (b .request j .task) k) 1)
-    (λ j less. ap (λ r. only (eqb (r .task) k) 1) (agree j less))
 
 module _ {table : Table} {runs : Runs} {a b : Requests} (one : Woven table runs a) (other : Woven table runs b) where
   module _ (i : ℕ) (within : i < a .count) (inside : i < b .count) (agree : Agree a b i) where

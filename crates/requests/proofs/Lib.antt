@@ -8,3 +8,4 @@ pub mod RuleLaws
 pub mod CheckLaws
 pub mod Exact
 pub mod AcceptedLaws
+pub mod BytesLaws

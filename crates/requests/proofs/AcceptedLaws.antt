@@ -14,7 +14,7 @@ use Rattle.requests.specs.declared.reader.Checked.the-variants as checke
 use Rattle.requests.specs.Entry.{entry-of, list-of}
 use Rattle.requests.specs.Rules.{Placed}
 use Rattle.requests.specs.Reader.{most-requests, check-of}
-use Rattle.requests.specs.Accepted.{Accepted, In-rule, Listed}
+use Rattle.requests.specs.Accepted.{Good, Accepted, In-rule, Listed}
 use Rattle.requests.proofs.LengthLaws.{right-few}
 use Rattle.requests.proofs.Exact.{check-good, check-count}
 
@@ -50,23 +50,26 @@ accepted-in-rule accepted =
       near = accepted-near accepted;
     }
 
--- and back: these are all that is asked
+-- and back: these are all that is asked, record by record
+module _ {table : Table} {s : List ℕ} (pads : (i : ℕ) → i < records s → entry-of s i .pad ≡ 0)
+    (legal : Legal table (list-of s)) (sorted : Sorted (list-of s))
+    (near : (i : ℕ) → i < records s → list-of s .request i .arrival ≤ last-arrival) where
+  pub rules-good : (j : ℕ) → j < records s → Good table s j
+  rules-good j within =
+      record {
+        in-place =
+            record {
+              pad = pads j within;
+              known = legal .known j within;
+              near = near j within;
+              ordered = λ i before. sorted i j before within;
+            };
+        in-turn = λ i next. legal .follows i j within next;
+      }
+
 pub in-rule-accepted : {table : Table} {s : List ℕ} → In-rule table s → Accepted table s
 in-rule-accepted rules =
-    record {
-      long = rules .long;
-      good = λ j within.
-          record {
-            in-place =
-                record {
-                  pad = rules .pads j within;
-                  known = rules .legal .known j within;
-                  near = rules .near j within;
-                  ordered = λ i before. rules .sorted i j before within;
-                };
-            in-turn = λ i next. rules .legal .follows i j within next;
-          };
-    }
+    record { long = rules .long; good = rules-good (rules .pads) (rules .legal) (rules .sorted) (rules .near) }
 
 -- ---- what a caller that has checked a list knows
 

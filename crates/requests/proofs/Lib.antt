@@ -9,3 +9,4 @@ pub mod CheckLaws
 pub mod Exact
 pub mod AcceptedLaws
 pub mod BytesLaws
+pub mod LawfulLaws

@@ -1,2 +1,3 @@
 pub mod TailLaws
 pub mod PlaceLaws
+pub mod Shown

@@ -45,7 +45,7 @@ module _ {table : Table} (good : ProperTable table) (t : ℕ) where
   unfolding starts
   starts-sixteen = tabulate-length 16 (start-in table t)
 
-  starts-at : (k : ℕ) → k < 16 → getD (starts table t) k 0 ≡ start-in table t k
+  pub starts-at : (k : ℕ) → k < 16 → getD (starts table t) k 0 ≡ start-in table t k
   unfolding starts
   starts-at k h = tabulate-at 16 (start-in table t) k h
 

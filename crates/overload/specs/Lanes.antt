@@ -6,7 +6,7 @@ use mathlib.Core.List.{List}
 use Prim.Native.Nat.{ℕ, _+_, _-_, _*_, _≤_, _<_}
 use lib.Dec.{ltb}
 use lib.ListN.{getD, set}
-use Rattle.laws.specs.Sums.{tabulate}
+use Rattle.laws.specs.Sums.{sum, tabulate}
 use Rattle.laws.specs.Search.{place-or}
 use Rattle.model.specs.Task.{Task, Table}
 use Rattle.model.specs.Demand.{frame, offset}
@@ -40,6 +40,14 @@ many-in table t k = cond (ltb k (table .tasks)) (requests-by (table .task k) (st
 
 unfoldable pub manies : Table → ℕ → List ℕ
 manies table t = tabulate 16 (many-in table t)
+
+-- the greatest number of 32 bits
+abbrev pub widest : ℕ
+widest = 4294967295
+
+pub record Totalled (many : List ℕ) (tasks r : ℕ) : Type 0 where
+  pub is : r ≡ sum tasks (λ k. getD many k 0)
+  pub at-most : r ≤ 16 * widest
 
 -- the runs that two arrays say
 abbrev pub runs-of : List ℕ → List ℕ → Runs

@@ -4,12 +4,10 @@ use table::reader::Refusal;
 use table::record::SIZE;
 ghost use mathlib.Core.Path.{_≡_};
 ghost use Prim.Native.Nat.{_≤_};
-ghost use Rattle.laws.specs.Sums.{sum};
-ghost use lib.ListN.{getD};
 ghost use Rattle.model.specs.Overload.{overload-list};
 ghost use Rattle.table.specs.TableOf.{table-of};
 ghost use Rattle.requests.specs.Entry.{bytes-of};
-ghost use Rattle.overload.specs.Lanes.{Asked};
+ghost use Rattle.overload.specs.Lanes.{Asked, widest, Totalled};
 ghost use Rattle.overload.specs.Place.{placed, Wrote};
 
 // How many bytes were written, or the refusal.
@@ -18,15 +16,22 @@ pub enum Written {
     Refused(Refusal),
 }
 
+// 32 bits as 64, with the bound that a sum of sixteen asks.
+fn wide(x: u32) -> usize
+    ensures { λ r. ⌜ (r ≡ x) × (r ≤ widest) ⌝ }
+{
+    x as usize
+}
+
 // How many requests all tasks make.
 fn total_of(tasks: usize, many: [u32; 16]) -> usize
     requires { ⌜ tasks ≤ 16 ⌝ }
-    ensures { λ r. ⌜ r ≡ sum tasks (λ k. getD many k 0) ⌝ }
+    ensures { λ r. ⌜ Totalled many tasks r ⌝ }
 {
     let mut sum: usize = 0;
     let mut k: usize = 0;
     while k < tasks {
-        sum += many[k] as usize;
+        sum += wide(many[k]);
         k += 1;
     }
     sum

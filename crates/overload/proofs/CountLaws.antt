@@ -32,11 +32,12 @@ pub record Counting (task : Task) (start t left i n many : ℕ) : Type 0 where
   pub few : many ≤ n
 
 -- what one turn reads and makes: the record x of frame i, and whether its deadline fits in the time left
-pub record Turn (task : Task) (frames left i n many left′ i′ many′ : ℕ) (x : Record) : Type 0 where
+pub record Turn (task : Task) (frames left i n many left′ i′ n′ many′ : ℕ) (x : Record) : Type 0 where
   pub some : 0 < left
   pub found : Frame-is task i x
   pub round : Frames task frames
-  pub many-turns : many′ ≡ cond (leb (x .d) left) (n + 1) many
+  pub one-more : n′ ≡ n + 1
+  pub many-turns : many′ ≡ cond (leb (x .d) left) n′ many
   pub left-turns : left′ ≡ left - x .p
   pub frame-turns : i′ ≡ (i + 1) % frames
 
@@ -75,7 +76,8 @@ module _ {task : Task} {start t left i n many : ℕ} (so-far : Counting task sta
   pub counting-less : {left′ : ℕ} (x : Record) → Frame-is task i x → left′ ≡ left - x .p → 0 < left → left′ < left
   counting-less x found turns some = omega (arith, found .p, so-far .proper .moves i (so-far .inside))
 
-  module _ (frames : ℕ) (x : Record) {left′ i′ many′ : ℕ} (turn : Turn task frames left i n many left′ i′ many′ x) where
+  module _ (frames : ℕ) (x : Record) {left′ i′ n′ many′ : ℕ}
+      (turn : Turn task frames left i n many left′ i′ n′ many′ x) where
     -- the task's own numbers in this turn
     p-is : x .p ≡ task .P (frame task start n)
     p-is = turn .found .p ∙ ap (task .P) (so-far .frame-is)
@@ -97,21 +99,25 @@ module _ {task : Task} {start t left i n many : ℕ} (so-far : Counting task sta
     later : offset task start (n + 1) ≡ offset task start n + x .p
     later = ap (offset task start) (add-one n) ∙ offset-next task start n ∙ omega (arith, p-is)
 
-    pub counting-on : Counting task start t left′ i′ (n + 1) many′
+    many-is : many′ ≡ cond (leb (x .d) left) (n + 1) many
+    many-is = turn .many-turns ∙ rw (turn .one-more)
+
+    pub counting-on : Counting task start t left′ i′ n′ many′
     counting-on =
-        record {
+        rw (turn .one-more)
+        (record {
           proper = so-far .proper;
           left-is = omega (arith, turn .left-turns, so-far .left-is, later);
           frame-is = next-is;
-          many-is = last-turn (due-by task start t) n (leb (x .d) left) due-is (so-far .many-is) (turn .many-turns);
+          many-is = last-turn (due-by task start t) n (leb (x .d) left) due-is (so-far .many-is) many-is;
           inside = rw next-is (frame-lt task (so-far .proper .some) start (n + 1));
           turns = omega (arith, so-far .turns, counting-less x (turn .found) (turn .left-turns) (turn .some));
-          few = most (leb (x .d) left) (turn .many-turns);
-        }
+          few = most (leb (x .d) left) many-is;
+        })
       where
         most : (due : Bool) → many′ ≡ cond due (n + 1) many → many′ ≤ n + 1
-        most true turns = omega arith
-        most false turns = omega (arith, so-far .few)
+        most true is = omega arith
+        most false is = omega (arith, so-far .few)
 
   -- no time is left: every later request comes at t or after it, and none of them is due by t
   pub counting-end : left ≤ 0 → Counted task start t many

@@ -16,7 +16,9 @@ loop-holds : tie.Need-loop-holds Inv-loop μ-loop
 loop-holds c = totalling-none _ _
 
 loop-again : tie.Need-loop-again Inv-loop μ-loop
-loop-again c = totalling-on (c .before .before .loop .inv) (c .wide .result) (search needs) (search needs) (search needs)
+loop-again c =
+    let at-loop = c .before .before in
+    totalling-on (at-loop .loop .inv) (c .wide .result) (search needs) (search needs) (search needs)
 
 returns : tie.Need-returns Inv-loop μ-loop
 returns c = totalling-end (c .before .loop .inv) (search needs) (search needs)

@@ -11,6 +11,7 @@ pub mod PickLaws
 pub mod OrderLaws
 pub mod PickRight
 pub mod PickSame
+pub mod PickPlace
 pub mod MachineLaws
 pub mod ReplayLaws
 pub mod JobsSame

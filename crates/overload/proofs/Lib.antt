@@ -4,3 +4,4 @@ pub mod Shown
 pub mod CountLaws
 pub mod ManyLaws
 pub mod TotalLaws
+pub mod FrontLaws

@@ -1,0 +1,27 @@
+-- `better` meets its contract: it is the definition, test by test.
+-- Assumes nothing.
+use mathlib.Core.Path.{refl}
+use borrow.Author.Needs.{needs}
+use Rattle.overload.proofs.lanes.better.Statement.{statement}
+use Rattle.overload.proofs.lanes.better.Tie as tie
+
+returns : tie.Need-returns
+returns c = rw (c .if1 .taken)
+
+returns-2 : tie.Need-returns-2
+returns-2 c = rw (c .if1 .left)
+
+pub better-spec : {M : Type 1} → statement M
+better-spec =
+    tie.close
+    (tie.spec
+    (λ c. search needs)
+    (λ c. search needs)
+    (λ c. search needs)
+    (λ c. search needs)
+    (λ c. search needs)
+    (λ c. search needs)
+    (λ c. search needs)
+    (λ c. search needs)
+    returns
+    returns-2)

@@ -1,0 +1,38 @@
+-- `front_of` meets its contract. The invariant: the best of the tasks below k is known (`Tried`).
+-- The measure is the number of tasks left. Assumes nothing.
+use Prim.Native.Nat.{_-_}
+use borrow.Author.Needs.{needs}
+use Rattle.overload.proofs.FrontLaws.{Tried, tried-start, tried-low, tried-turn, tried-end}
+use Rattle.overload.proofs.lanes.front_of.Statement.{statement}
+use Rattle.overload.proofs.lanes.front_of.Tie as tie
+
+abbrev Inv-loop : tie.InvT-loop
+Inv-loop tasks lanes best₀ k₀ best k = Tried tasks lanes best k
+
+abbrev μ-loop : tie.MeasureT-loop
+μ-loop tasks lanes best₀ k₀ best k = tasks - k
+
+loop-holds : tie.Need-loop-holds Inv-loop μ-loop
+loop-holds c = tried-start
+
+better-requires : tie.Need-better-requires Inv-loop μ-loop
+better-requires c κs = (tried-low (c .before .loop .inv) (search needs), search needs)
+
+loop-again : tie.Need-loop-again Inv-loop μ-loop
+loop-again c = tried-turn (c .before .before .loop .inv) (search needs) (c .better .ensures)
+
+returns : tie.Need-returns Inv-loop μ-loop
+returns c = tried-end (c .before .loop .inv) (search needs)
+
+pub front-of-spec : {M : Type 1} → statement M
+front-of-spec =
+    tie.close
+    (tie.spec
+    Inv-loop
+    μ-loop
+    loop-holds
+    better-requires
+    (λ c. search needs)
+    (λ c. search needs)
+    loop-again
+    returns)

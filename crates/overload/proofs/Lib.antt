@@ -5,3 +5,5 @@ pub mod CountLaws
 pub mod ManyLaws
 pub mod TotalLaws
 pub mod FrontLaws
+pub mod LaneLaws
+pub mod PutLaws

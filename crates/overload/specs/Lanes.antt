@@ -81,6 +81,7 @@ better-of lanes best k =
 -- what is asked before a request of task k is taken
 pub record Movable (s : List ℕ) (plan : Plan) (lanes : Lanes) (k : ℕ) : Type 0 where
   pub ready : Ready s plan
+  pub low : k < 16
   pub known : Has-frame (table-of s) k (getD (lanes .frame) k 0)
   pub some : 0 < getD (lanes .left) k 0
   pub near : getD (lanes .arrival) k 0 ≤ ceiling

@@ -25,3 +25,4 @@ pub mod WeaveLaws
 pub mod WeaveWoven
 pub mod WovenOne
 pub mod WovenSame
+pub mod WeaveSame

@@ -49,7 +49,7 @@ module _ {table : Table} (good : ProperTable table) (t : ℕ) where
   unfolding starts
   starts-at k h = tabulate-at 16 (start-in table t) k h
 
-  starts-inside : (k : ℕ) → k < 16 → k < table .tasks → getD (starts table t) k 0 ≡ start (table .task k) t
+  pub starts-inside : (k : ℕ) → k < 16 → k < table .tasks → getD (starts table t) k 0 ≡ start (table .task k) t
   starts-inside k h inside = starts-at k h ∙ rw (lt-ltb k (table .tasks) inside)
 
   pub starts-past : (k : ℕ) → k < 16 → table .tasks ≤ k → getD (starts table t) k 0 ≡ 0

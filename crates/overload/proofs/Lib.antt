@@ -7,3 +7,4 @@ pub mod TotalLaws
 pub mod FrontLaws
 pub mod LaneLaws
 pub mod PutLaws
+pub mod GatheredLaws

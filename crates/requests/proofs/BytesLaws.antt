@@ -1,8 +1,9 @@
 -- A list as bytes: how many bytes they are, and that they read back as the list, with zero pads.
 -- Assumes nothing.
 use Prim.Native.Nat.{ℕ, zero, suc, _+_, _*_, _/_, _%_, _<_}
-use mathlib.Core.Path.{_≡_, refl, ap, _∙_}
+use mathlib.Core.Path.{_≡_, refl, ap, ap₂, _∙_}
 use mathlib.Core.Logic.{inl, inr}
+use mathlib.Core.List.{_++_}
 use lib.ListN.{length, getD, length-append, List·getD-append}
 use lib.Seq.{getD-append-add}
 use native.Mathlib.Omega.{arith}
@@ -15,6 +16,19 @@ pub bytes-length : (list : Requests) (n : ℕ) → length (bytes-to list n) ≡ 
 unfolding bytes-to
 bytes-length list zero = refl
 bytes-length list (suc n) = simp (length-append, bytes-length list n) (omega arith)
+
+-- lists that are the same have the same bytes
+bytes-to-same : (list other : Requests) (n : ℕ) → ((i : ℕ) → i < n → list .request i ≡ other .request i) →
+    bytes-to list n ≡ bytes-to other n
+unfolding bytes-to
+bytes-to-same list other zero same = refl
+bytes-to-same list other (suc n) same =
+    ap₂ (λ front x. front ++ entry-bytes x) (bytes-to-same list other n (λ i less. same i (omega arith)))
+    (same n (omega arith))
+
+pub bytes-same : {list other : Requests} → Same list other → bytes-of list ≡ bytes-of other
+bytes-same {list} {other} same =
+    ap (bytes-to list) (same .count-is) ∙ bytes-to-same list other (other .count) (same .request-is)
 
 -- ---- one record
 

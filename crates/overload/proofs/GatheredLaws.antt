@@ -1,0 +1,108 @@
+-- What the writer has gathered before it writes: how many requests each task makes, and how many all make. They are
+-- those of the overload list, so that what is put from them is the list's bytes; and the writer's ways out.
+-- Assumes nothing.
+use mathlib.Core.Path.{_≡_, sym, ap, _∙_}
+use mathlib.Core.List.{List, _++_}
+use Prim.Native.Nat.{ℕ, _-_, _*_, _≤_, _<_}
+use native.Mathlib.Omega.{arith}
+use lib.ListN.{length, getD, drop}
+use borrow.Author.Tests.{lt-ltb}
+use borrow.Rule.Slice.PartMut.{putMid, midOf}
+use Rattle.laws.specs.Sums.{sum}
+use Rattle.laws.proofs.Fill.{tabulate-at}
+use Rattle.model.specs.Task.{ProperTable}
+use Rattle.model.specs.Request.{Same}
+use Rattle.model.specs.Verdict.{start}
+use Rattle.model.specs.Weave.{weave}
+use Rattle.model.specs.Overload.{requests-by, overload-runs, overload-list}
+use Rattle.model.proofs.StartLaws.{starts-inside}
+use Rattle.model.proofs.DueLaws.{run-near}
+use Rattle.model.proofs.OverloadLaws.{overload-inside}
+use Rattle.model.proofs.WeaveLaws.{weave-count}
+use Rattle.model.proofs.WeaveSame.{Alike, weave-same}
+use Rattle.table.specs.Bytes.{size}
+use Rattle.table.specs.TableOf.{table-of}
+use Rattle.table.specs.declared.plan.Plan.{Plan}
+use Rattle.table.proofs.ReadyLaws.{Bytes, ready-tasks, ready-few, ready-proper}
+use Rattle.requests.specs.Entry.{bytes-of}
+use Rattle.requests.proofs.BytesLaws.{bytes-length, bytes-same}
+use Rattle.overload.specs.declared.write.Written.the-variants as written
+use Rattle.overload.specs.Lanes.{Asked, many-in, manies, runs-of, Puts}
+use Rattle.overload.specs.Place.{placed, Wrote}
+use Rattle.overload.proofs.PlaceLaws.{wrote-short, wrote-whole}
+
+pub record Gathered (s : List ℕ) (plan : Plan) (first : List ℕ) (t : ℕ) (many : List ℕ) (n : ℕ) : Type 0 where
+  pub asked : Asked s plan first t
+  pub bytes : Bytes s
+  pub many-are : many ≡ manies (table-of s) t
+  pub total : n ≡ sum (plan .tasks) (λ k. getD many k 0)
+
+module _ {s : List ℕ} {plan : Plan} {first : List ℕ} {t : ℕ} {many : List ℕ} {n : ℕ}
+    (gathered : Gathered s plan first t many n) where
+  good : ProperTable (table-of s)
+  good = ready-proper (gathered .asked .ready) (gathered .bytes)
+
+  low : (k : ℕ) → k < table-of s .tasks → k < 16
+  low k inside = omega (arith, ready-few (gathered .asked .ready))
+
+  -- ---- the runs are those of the overload
+
+  first-is : (k : ℕ) → k < table-of s .tasks → getD first k 0 ≡ start (table-of s .task k) t
+  first-is k inside = rw (gathered .asked .starts-are) (starts-inside good t k (low k inside) inside)
+
+  many-is : (k : ℕ) → k < table-of s .tasks
+      → getD many k 0 ≡ requests-by (table-of s .task k) (start (table-of s .task k) t) t
+  unfolding manies
+  many-is k inside =
+      rw (gathered .many-are)
+      (tabulate-at 16 (many-in (table-of s) t) k (low k inside) ∙ rw (lt-ltb k (table-of s .tasks) inside))
+
+  gathered-list : Same (weave (table-of s) (runs-of first many)) (overload-list (table-of s) t)
+  unfolding overload-list
+  gathered-list =
+      let alike : Alike (table-of s) (runs-of first many) (overload-runs (table-of s) t) =
+      record { starts = first-is; many = many-is } in
+      weave-same alike good
+
+  gathered-count : n ≡ weave (table-of s) (runs-of first many) .count
+  gathered-count =
+      gathered .total
+      ∙ ap (λ (m : ℕ). sum m (λ k. getD many k 0)) (ready-tasks (gathered .asked .ready))
+      ∙ sym (weave-count (table-of s) (runs-of first many))
+
+  gathered-long : length (bytes-of (overload-list (table-of s) t)) ≡ n * size
+  gathered-long =
+      let list = overload-list (table-of s) t in
+      omega (arith, bytes-length list (list .count), gathered-count, gathered-list .count-is)
+
+  -- ---- what the record writer asks
+
+  pub gathered-puts : (room : ℕ) → n * size ≤ room → Puts (table-of s) (runs-of first many) n room
+  gathered-puts room fits =
+      record {
+        count-is = gathered-count;
+        fits = fits;
+        inside = λ k inside. rw (first-is k inside) (overload-inside good t k inside);
+        near = λ k i inside below.
+            let near = run-near (good .proper k inside) (start (table-of s .task k) t) t i in
+            rw (first-is k inside) (omega (arith, near (rw (many-is k inside) at below), gathered .asked .within));
+      }
+
+  -- ---- the ways out
+
+  module _ (buffer : List ℕ) (place : ℕ) (reached : place ≤ length buffer) where
+    abbrev list : List ℕ
+    list = bytes-of (overload-list (table-of s) t)
+
+    pub list-short : length buffer - place < n * size →
+        Wrote buffer place (placed buffer place list) (written.Refused (record { number = 12; index = 0 })) buffer
+    list-short short = wrote-short buffer place list reached (n * size) gathered-long short
+
+    pub list-whole : (last : List ℕ) → n * size ≤ length buffer - place →
+        last ≡ bytes-of (weave (table-of s) (runs-of first many))
+        ++ drop (n * size) (midOf place (length buffer - place) buffer) →
+        Wrote buffer place (placed buffer place list) (written.Bytes (n * size))
+        (putMid place (length buffer - place) buffer last)
+    list-whole last room last-is =
+        wrote-whole buffer place list reached (n * size) gathered-long last room
+        (rw (bytes-same gathered-list) at last-is)

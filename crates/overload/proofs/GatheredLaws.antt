@@ -5,7 +5,7 @@ use mathlib.Core.Path.{_≡_, sym, ap, _∙_}
 use mathlib.Core.List.{List, _++_}
 use Prim.Native.Nat.{ℕ, _-_, _*_, _≤_, _<_}
 use native.Mathlib.Omega.{arith}
-use lib.ListN.{length, getD, drop}
+use lib.ListN.{length, getD, drop, length-drop}
 use borrow.Author.Tests.{lt-ltb}
 use borrow.Rule.Slice.PartMut.{putMid, midOf}
 use Rattle.laws.specs.Sums.{sum}
@@ -29,6 +29,7 @@ use Rattle.requests.proofs.BytesLaws.{bytes-length, bytes-same}
 use Rattle.overload.specs.declared.write.Written.the-variants as written
 use Rattle.overload.specs.Lanes.{Asked, many-in, manies, runs-of, Puts}
 use Rattle.overload.specs.Place.{placed, Wrote}
+use Rattle.overload.proofs.TailLaws.{lent-tail}
 use Rattle.overload.proofs.PlaceLaws.{wrote-short, wrote-whole}
 
 pub record Gathered (s : List ℕ) (plan : Plan) (first : List ℕ) (t : ℕ) (many : List ℕ) (n : ℕ) : Type 0 where
@@ -36,6 +37,11 @@ pub record Gathered (s : List ℕ) (plan : Plan) (first : List ℕ) (t : ℕ) (m
   pub bytes : Bytes s
   pub many-are : many ≡ manies (table-of s) t
   pub total : n ≡ sum (plan .tasks) (λ k. getD many k 0)
+
+pub gather : {s : List ℕ} {plan : Plan} {first : List ℕ} {t : ℕ} {many : List ℕ} {n : ℕ} → Asked s plan first t →
+    Bytes s → many ≡ manies (table-of s) t → n ≡ sum (plan .tasks) (λ k. getD many k 0) →
+    Gathered s plan first t many n
+gather asked bytes many-are total = record { asked = asked; bytes = bytes; many-are = many-are; total = total }
 
 module _ {s : List ℕ} {plan : Plan} {first : List ℕ} {t : ℕ} {many : List ℕ} {n : ℕ}
     (gathered : Gathered s plan first t many n) where
@@ -75,22 +81,21 @@ module _ {s : List ℕ} {plan : Plan} {first : List ℕ} {t : ℕ} {many : List 
       let list = overload-list (table-of s) t in
       omega (arith, bytes-length list (list .count), gathered-count, gathered-list .count-is)
 
-  -- ---- what the record writer asks
-
-  pub gathered-puts : (room : ℕ) → n * size ≤ room → Puts (table-of s) (runs-of first many) n room
-  gathered-puts room fits =
-      record {
-        count-is = gathered-count;
-        fits = fits;
-        inside = λ k inside. rw (first-is k inside) (overload-inside good t k inside);
-        near = λ k i inside below.
-            let near = run-near (good .proper k inside) (start (table-of s .task k) t) t i in
-            rw (first-is k inside) (omega (arith, near (rw (many-is k inside) at below), gathered .asked .within));
-      }
-
-  -- ---- the ways out
+  -- ---- what the record writer asks, and the ways out
 
   module _ (buffer : List ℕ) (place : ℕ) (reached : place ≤ length buffer) where
+    pub gathered-puts : n * size ≤ length buffer - place →
+        Puts (table-of s) (runs-of first many) n (length (midOf place (length buffer - place) buffer))
+    gathered-puts room =
+        record {
+          count-is = gathered-count;
+          fits = rw (lent-tail buffer place reached, length-drop place buffer) room;
+          inside = λ k inside. rw (first-is k inside) (overload-inside good t k inside);
+          near = λ k i inside below.
+              let near = run-near (good .proper k inside) (start (table-of s .task k) t) t i in
+              rw (first-is k inside) (omega (arith, near (rw (many-is k inside) at below), gathered .asked .within));
+        }
+
     abbrev list : List ℕ
     list = bytes-of (overload-list (table-of s) t)
 

@@ -51,8 +51,7 @@ put-next-requires : tie.Need-put-next-requires Inv-loop μ-loop
 put-next-requires c κs =
     let front = c .before in
     let loop = front .before .before in
-    let pre = loop .before .before .before .pre in
-    (
+    let pre = loop .before .before .before .pre in (
       putting-low (pre .0) (pre .1) (loop .loop .inv) (search needs) (front .front-of .ensures),
       putting-lent (pre .1) (loop .loop .inv) (search needs),
     )

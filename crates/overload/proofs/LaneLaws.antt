@@ -8,7 +8,7 @@ use native.Mathlib.Numerals.{add-one}
 use native.Mathlib.Omega.{arith}
 use native.Mathlib.Decide.{ℕ-discrete}
 use lib.Dec.{ltb}
-use lib.ListN.{length, getD, set}
+use lib.ListN.{length, getD, set, length-set}
 use lib.Seq.{getD-set-same, getD-set-other}
 use borrow.Author.Tests.{lt-ltb, le-ltb}
 use Rattle.laws.specs.Search.{place-or}
@@ -44,6 +44,15 @@ pub record Full (lanes : Lanes) : Type 0 where
   pub left : length (lanes .left) ≡ 16
   pub frame : length (lanes .frame) ≡ 16
   pub arrival : length (lanes .arrival) ≡ 16
+
+pub full-on : (table : Table) (k : ℕ) {lanes : Lanes} → Full lanes → Full (moved-on table lanes k)
+unfolding moved-on
+full-on table k full =
+    record {
+      left = rw length-set (full .left);
+      frame = rw length-set (full .frame);
+      arrival = rw length-set (full .arrival);
+    }
 
 -- some are left of a number when fewer are taken
 some-less : (taken many : ℕ) → ltb 0 (many - taken) ≡ ltb taken many

@@ -5,6 +5,7 @@ pub mod CountLaws
 pub mod ManyLaws
 pub mod TotalLaws
 pub mod FrontLaws
-pub mod LaneLaws
+pub mod MoveLaws
+pub mod StandLaws
 pub mod PutLaws
 pub mod GatheredLaws

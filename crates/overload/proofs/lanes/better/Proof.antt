@@ -1,6 +1,5 @@
 -- `better` meets its contract: it is the definition, test by test.
 -- Assumes nothing.
-use mathlib.Core.Path.{refl}
 use borrow.Author.Needs.{needs}
 use Rattle.overload.proofs.lanes.better.Statement.{statement}
 use Rattle.overload.proofs.lanes.better.Tie as tie

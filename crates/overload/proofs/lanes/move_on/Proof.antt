@@ -3,7 +3,7 @@
 use native.Mathlib.Omega.{arith}
 use borrow.Author.Needs.{needs}
 use Rattle.table.proofs.ReadyLaws.{ready-tasks}
-use Rattle.overload.proofs.LaneLaws.{next-low, moved-is}
+use Rattle.overload.proofs.MoveLaws.{next-low, moved-is}
 use Rattle.overload.proofs.lanes.move_on.Statement.{statement}
 use Rattle.overload.proofs.lanes.move_on.Tie as tie
 

@@ -38,6 +38,7 @@ pub record Gathered (s : List ℕ) (plan : Plan) (first : List ℕ) (t : ℕ) (m
   pub many-are : many ≡ manies (table-of s) t
   pub total : n ≡ sum (plan .tasks) (λ k. getD many k 0)
 
+-- from what was asked of the writer and what the parts that it called ensure
 pub gather : {s : List ℕ} {plan : Plan} {first : List ℕ} {t : ℕ} {many : List ℕ} {n : ℕ} → Asked s plan first t →
     Bytes s → many ≡ manies (table-of s) t → n ≡ sum (plan .tasks) (λ k. getD many k 0) →
     Gathered s plan first t many n
@@ -63,12 +64,12 @@ module _ {s : List ℕ} {plan : Plan} {first : List ℕ} {t : ℕ} {many : List 
       rw (gathered .many-are)
       (tabulate-at 16 (many-in (table-of s) t) k (low k inside) ∙ rw (lt-ltb k (table-of s .tasks) inside))
 
+  alike : Alike (table-of s) (runs-of first many) (overload-runs (table-of s) t)
+  alike = record { starts = first-is; many = many-is }
+
   gathered-list : Same (weave (table-of s) (runs-of first many)) (overload-list (table-of s) t)
   unfolding overload-list
-  gathered-list =
-      let alike : Alike (table-of s) (runs-of first many) (overload-runs (table-of s) t) =
-      record { starts = first-is; many = many-is } in
-      weave-same alike good
+  gathered-list = weave-same alike good
 
   gathered-count : n ≡ weave (table-of s) (runs-of first many) .count
   gathered-count =
@@ -92,8 +93,8 @@ module _ {s : List ℕ} {plan : Plan} {first : List ℕ} {t : ℕ} {many : List 
           fits = rw (lent-tail buffer place reached, length-drop place buffer) room;
           inside = λ k inside. rw (first-is k inside) (overload-inside good t k inside);
           near = λ k i inside below.
-              let near = run-near (good .proper k inside) (start (table-of s .task k) t) t i in
-              rw (first-is k inside) (omega (arith, near (rw (many-is k inside) at below), gathered .asked .within));
+              let before = run-near (good .proper k inside) (start (table-of s .task k) t) t i in
+              rw (first-is k inside) (omega (arith, before (rw (many-is k inside) at below), gathered .asked .within));
         }
 
     abbrev list : List ℕ
@@ -104,8 +105,8 @@ module _ {s : List ℕ} {plan : Plan} {first : List ℕ} {t : ℕ} {many : List 
     list-short short = wrote-short buffer place list reached (n * size) gathered-long short
 
     pub list-whole : (last : List ℕ) → n * size ≤ length buffer - place →
-        last ≡ bytes-of (weave (table-of s) (runs-of first many))
-        ++ drop (n * size) (midOf place (length buffer - place) buffer) →
+        let put = bytes-of (weave (table-of s) (runs-of first many)) in
+        last ≡ put ++ drop (n * size) (midOf place (length buffer - place) buffer) →
         Wrote buffer place (placed buffer place list) (written.Bytes (n * size))
         (putMid place (length buffer - place) buffer last)
     list-whole last room last-is =

@@ -115,8 +115,7 @@ module _ {table : Table} {runs : Runs} {lanes : Lanes} {i k : ℕ}
           getD-set-same (lanes .frame) k (frame task (getD (lanes .frame) k 0) 1) 0 (omega (arith, full .frame)),
           getD-set-same (lanes .arrival) k (getD (lanes .arrival) k 0 + task .P (getD (lanes .frame) k 0)) 0
               (omega (arith, full .arrival)),
-          one-more,
-          add-one (taken k),
+          one-more ∙ add-one (taken k),
           ← frame-next task start (taken k),
           offset-next task start (taken k),
           stand-frame stand k turn-known,

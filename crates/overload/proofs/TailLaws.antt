@@ -25,9 +25,9 @@ pub one-more : (lent out last front entry : List ℕ) (n at : ℕ) → at ≡ n 
     last ≡ entry ++ drop size (midOf at (length out - at) out) →
     putMid at (length out - at) out last ≡ (front ++ entry) ++ drop ((n + 1) * size) lent
 one-more lent out last front entry n at at-is within long out-is last-is =
-    let before : take at out ≡ front = ap (take at) out-is ∙ take-at front (drop (n * size) lent) at (omega arith) in
-    let behind : drop at out ≡ drop (n * size) lent =
-    ap (drop at) out-is ∙ drop-at front (drop (n * size) lent) at (omega arith) in
+    let rest = drop (n * size) lent in
+    let before : take at out ≡ front = ap (take at) out-is ∙ take-at front rest at (omega arith) in
+    let behind : drop at out ≡ rest = ap (drop at) out-is ∙ drop-at front rest at (omega arith) in
     let far : n * size + size ≡ (n + 1) * size = omega arith in
     rw (back-tail out at within last, last-is, lent-tail out at within, behind, before)
     (rw (drop-drop size (n * size) lent, far) (sym (append-assoc front entry (drop ((n + 1) * size) lent))))

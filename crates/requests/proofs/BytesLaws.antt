@@ -61,9 +61,7 @@ module _ (list : Requests) (short : (i : ℕ) → i < list .count → list .requ
       entry-of (bytes-of list) i ≡ record { task = x .task; frame = x .frame; pad = 0; arrival = x .arrival }
   unfolding entry-of
   entry-back i within =
-      let byte : (at place : ℕ) → at ≡ i * size + place → place < size →
-      getD (bytes-of list) at 0 ≡ getD (entry-bytes (list .request i)) place 0 =
-      byte-at list (list .count) i within in
+      let byte = byte-at list (list .count) i within in
       let a = i * size in
       rw (
         byte a 0 (omega arith) (omega arith),

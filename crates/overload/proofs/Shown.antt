@@ -1,7 +1,6 @@
 -- The bytes of the overload list show what they are to show, wherever the demand at t is above t and t is within the
 -- horizon.
 -- Assumes nothing.
-use mathlib.Core.Path.{_≡_, refl, ap}
 use Prim.Native.Nat.{ℕ, _≤_, _<_}
 use native.Mathlib.Omega.{arith}
 use Rattle.model.specs.Task.{Table, ProperTable}

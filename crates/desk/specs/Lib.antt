@@ -4,3 +4,4 @@ pub mod Written
 pub mod Tables
 pub mod Named
 pub mod Refusals
+pub mod Writes

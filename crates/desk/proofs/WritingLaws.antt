@@ -25,7 +25,7 @@ use Rattle.verdict.specs.declared.judge.Verdict.the-variants.{Overloaded}
 use Rattle.verdict.specs.Written.{judged-of}
 use Rattle.verdict.proofs.judge.Verdict.{the-type}
 use Rattle.overload.specs.declared.write.Written.the-variants as written
-use Rattle.overload.specs.Lanes.{Asked}
+use Rattle.overload.specs.Counts.{Asked}
 use Rattle.overload.specs.Place.{placed, Wrote}
 use Rattle.desk.specs.Writing.{on-overload, list-at, overload-asked}
 

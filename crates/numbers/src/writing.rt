@@ -1,5 +1,6 @@
 // The questions whose answer is written into a buffer.
 use overload::write::Written;
+use table::record::SIZE;
 ghost use Prim.Native.Nat.{_≤_};
 ghost use lib.ListN.{length};
 
@@ -31,7 +32,7 @@ fn replay_first(table: &[u8], buffer: &[u8], n: usize)
     requires { ⌜ n ≤ length (now buffer) ⌝ }
 {
     say::say(b"records=");
-    say::say_number((n / 8) as u64);
+    say::say_number((n / SIZE) as u64);
     say::say(b" ");
     say::say_ending(desk::replay(table, &buffer[..n]));
 }

@@ -18,7 +18,7 @@ use Rattle.model.specs.Overload.{due-by, requests-by}
 use Rattle.model.proofs.CyclicLaws.{frame-lt, frame-none, frame-next, offset-none, offset-next, offset-mono}
 use Rattle.table.specs.Ready.{Frame-is, Frames}
 use Rattle.table.specs.declared.record.Record.{Record}
-use Rattle.overload.specs.Lanes.{Counted}
+use Rattle.overload.specs.Counts.{Counted}
 
 -- n requests are tried: the time left at the next one's arrival, its frame, and how many go up to the last that is due
 pub record Counting (task : Task) (start t left i n many : ℕ) : Type 0 where

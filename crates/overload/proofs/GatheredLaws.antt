@@ -27,7 +27,8 @@ use Rattle.table.proofs.ReadyLaws.{Bytes, ready-tasks, ready-few, ready-proper}
 use Rattle.requests.specs.Entry.{bytes-of}
 use Rattle.requests.proofs.BytesLaws.{bytes-length, bytes-same}
 use Rattle.overload.specs.declared.write.Written.the-variants as written
-use Rattle.overload.specs.Lanes.{Asked, many-in, manies, runs-of, Puts}
+use Rattle.overload.specs.Counts.{Asked, many-in, counts}
+use Rattle.overload.specs.Lanes.{runs-of, Puts}
 use Rattle.overload.specs.Place.{placed, Wrote}
 use Rattle.overload.proofs.TailLaws.{lent-tail}
 use Rattle.overload.proofs.PlaceLaws.{wrote-short, wrote-whole}
@@ -35,12 +36,12 @@ use Rattle.overload.proofs.PlaceLaws.{wrote-short, wrote-whole}
 pub record Gathered (s : List ℕ) (plan : Plan) (first : List ℕ) (t : ℕ) (many : List ℕ) (n : ℕ) : Type 0 where
   pub asked : Asked s plan first t
   pub bytes : Bytes s
-  pub many-are : many ≡ manies (table-of s) t
+  pub many-are : many ≡ counts (table-of s) t
   pub total : n ≡ sum (plan .tasks) (λ k. getD many k 0)
 
 -- from what was asked of the writer and what the parts that it called ensure
 pub gather : {s : List ℕ} {plan : Plan} {first : List ℕ} {t : ℕ} {many : List ℕ} {n : ℕ} → Asked s plan first t →
-    Bytes s → many ≡ manies (table-of s) t → n ≡ sum (plan .tasks) (λ k. getD many k 0) →
+    Bytes s → many ≡ counts (table-of s) t → n ≡ sum (plan .tasks) (λ k. getD many k 0) →
     Gathered s plan first t many n
 gather asked bytes many-are total = record { asked = asked; bytes = bytes; many-are = many-are; total = total }
 
@@ -59,7 +60,7 @@ module _ {s : List ℕ} {plan : Plan} {first : List ℕ} {t : ℕ} {many : List 
 
   many-is : (k : ℕ) → k < table-of s .tasks
       → getD many k 0 ≡ requests-by (table-of s .task k) (start (table-of s .task k) t) t
-  unfolding manies
+  unfolding counts
   many-is k inside =
       rw (gathered .many-are)
       (tabulate-at 16 (many-in (table-of s) t) k (low k inside) ∙ rw (lt-ltb k (table-of s .tasks) inside))

@@ -13,7 +13,7 @@ use Rattle.model.proofs.StartLaws.{starts-at, starts-each}
 use Rattle.table.specs.TableOf.{table-of}
 use Rattle.table.specs.declared.plan.Plan.{Plan}
 use Rattle.table.proofs.ReadyLaws.{Bytes, ready-tasks, ready-here, ready-low, ready-proper}
-use Rattle.overload.specs.Lanes.{Asked, Counted, many-in}
+use Rattle.overload.specs.Counts.{Asked, Counted, many-in}
 
 module _ {s : List ℕ} {plan : Plan} {first : List ℕ} {t : ℕ} (asked : Asked s plan first t) (k : ℕ) where
   module _ (bytes : Bytes s) (inside : k < plan .tasks) where

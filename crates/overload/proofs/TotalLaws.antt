@@ -7,7 +7,7 @@ use native.Mathlib.Omega.{arith}
 use lib.ListN.{getD}
 use Rattle.laws.specs.Sums.{sum}
 use Rattle.laws.proofs.SumLaws.{sum-zero, sum-turn}
-use Rattle.overload.specs.Lanes.{widest, Totalled}
+use Rattle.overload.specs.Counts.{widest, Totalled}
 
 abbrev place : List ℕ → ℕ → ℕ
 place many k = getD many k 0

@@ -1,4 +1,4 @@
--- How the overload list is put together in the code: where each task stands, and what is asked of the numbers.
+-- How the overload list is put together in the code: where each task stands, and the next request.
 -- Assumes nothing.
 use mathlib.Core.Bool.{Bool, cond, not, _&&_, _||_}
 use mathlib.Core.Path.{_≡_}
@@ -6,15 +6,12 @@ use mathlib.Core.List.{List}
 use Prim.Native.Nat.{ℕ, _+_, _-_, _*_, _≤_, _<_}
 use lib.Dec.{ltb}
 use lib.ListN.{getD, set}
-use Rattle.laws.specs.Sums.{sum, tabulate}
 use Rattle.laws.specs.Search.{place-or}
-use Rattle.model.specs.Task.{Task, Table}
+use Rattle.model.specs.Task.{Table}
 use Rattle.model.specs.Demand.{frame, offset}
 use Rattle.model.specs.Request.{Request, Has-frame}
 use Rattle.model.specs.Machine.{Order, pick}
-use Rattle.model.specs.Verdict.{start-in, starts}
 use Rattle.model.specs.Weave.{Runs, earliest, weave}
-use Rattle.model.specs.Overload.{requests-by}
 use Rattle.table.specs.Bytes.{size}
 use Rattle.table.specs.TableOf.{table-of}
 use Rattle.table.specs.Ready.{Ready}
@@ -22,32 +19,7 @@ use Rattle.table.specs.declared.plan.Plan.{Plan}
 use Rattle.sums.specs.Sized.{ceiling}
 use Rattle.overload.specs.declared.lanes.Lanes.{Lanes}
 
--- ---- how many requests
-
--- the list is asked for at t, from these start frames on
-pub record Asked (s : List ℕ) (plan : Plan) (first : List ℕ) (t : ℕ) : Type 0 where
-  pub ready : Ready s plan
-  pub within : t ≤ ceiling
-  pub starts-are : first ≡ starts (table-of s) t
-
-pub record Counted (task : Task) (s t r : ℕ) : Type 0 where
-  pub is : r ≡ requests-by task s t
-  pub at-most : r ≤ t
-
--- one number for each task, 0 past the last task
-abbrev pub many-in : Table → ℕ → ℕ → ℕ
-many-in table t k = cond (ltb k (table .tasks)) (requests-by (table .task k) (start-in table t k) t) 0
-
-unfoldable pub manies : Table → ℕ → List ℕ
-manies table t = tabulate 16 (many-in table t)
-
--- the greatest number of 32 bits
-abbrev pub widest : ℕ
-widest = 4294967295
-
-pub record Totalled (many : List ℕ) (tasks r : ℕ) : Type 0 where
-  pub is : r ≡ sum tasks (λ k. getD many k 0)
-  pub at-most : r ≤ 16 * widest
+-- ---- what is asked
 
 -- the runs that two arrays say
 abbrev pub runs-of : List ℕ → List ℕ → Runs

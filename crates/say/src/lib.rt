@@ -183,7 +183,11 @@ fn say_byte(b: u8) {
     say(&[text::hex_digit(b / 16), text::hex_digit(b % 16)]);
 }
 
+// In hex, and - for none, as they are asked.
 pub fn say_bytes(bytes: &[u8]) {
+    if bytes.len() == 0 {
+        say(b"-");
+    }
     let mut i: usize = 0;
     while i < bytes.len() {
         say_byte(bytes[i]);

@@ -5,4 +5,5 @@ pub mod ListLaws
 pub mod WritingLaws
 pub mod ListExact
 pub mod ListExample
+pub mod OverloadReplay
 pub mod ReplayLaws

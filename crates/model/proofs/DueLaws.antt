@@ -37,7 +37,7 @@ module _ {task : Task} (proper : Proper task) (s t : ℕ) where
             proper .waits (frame task s m) (frame-lt task (proper .some) s m),
           )
 
-  pub requests-most : requests-by task s t ≤ t
+  requests-most : requests-by task s t ≤ t
   requests-most = which (requests-by task s t) run-near
     where
       which : (many : ℕ) → ((n : ℕ) → n < many → offset task s n < t) → many ≤ t

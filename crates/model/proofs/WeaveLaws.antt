@@ -115,9 +115,9 @@ module _ (table : Table) (runs : Runs) where
       → taken-by table runs i (task-at i) < runs .many (task-at i)
   foremost-left i less = ltb-true _ _ (chosen i less .passes)
 
-  pub taken-most : (i k : ℕ) → i ≤ weave table runs .count → k < table .tasks → taken-by table runs i k ≤ runs .many k
-  taken-most zero k within inside = omega (arith, taken-start k)
-  taken-most (suc i) k within inside =
+  taken-most : (i k : ℕ) → i ≤ weave table runs .count → taken-by table runs i k ≤ runs .many k
+  taken-most zero k within = omega (arith, taken-start k)
+  taken-most (suc i) k within =
       elim (ℕ-discrete (task-at i) k) [
         | yes here ↦ omega (
           arith,
@@ -126,7 +126,7 @@ module _ (table : Table) (runs : Runs) where
           ap (runs .many) here,
           foremost-left i within,
         )
-        | no other ↦ omega (arith, taken-other i k other, taken-most i k (omega arith) inside)
+        | no other ↦ omega (arith, taken-other i k other, taken-most i k (omega arith))
       ]
 
   -- at the end every task's requests are taken
@@ -134,4 +134,4 @@ module _ (table : Table) (runs : Runs) where
   taken-all =
       let end = weave table runs .count in
       sum-tight (table .tasks) (taken-by table runs end) (runs .many)
-      (λ k inside. taken-most end k (le-refl end) inside) (taken-sum end foremost-lt ∙ weave-count)
+      (λ k inside. taken-most end k (le-refl end)) (taken-sum end foremost-lt ∙ weave-count)

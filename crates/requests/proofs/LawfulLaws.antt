@@ -45,12 +45,9 @@ module _ {table : Table} (list : Requests) (legal : Legal table list) (sorted : 
 
 -- ---- the limit of 128 records
 
-module _ {table : Table} {s : List ℕ} where
-  pub lawful-accepted : Lawful table s → length s ≤ most-requests * size → Accepted table s
-  lawful-accepted lawful few = record { long = record { few = few; whole = lawful .whole }; good = lawful .good }
-
-  pub accepted-lawful : Accepted table s → Lawful table s
-  accepted-lawful accepted = record { whole = accepted .long .whole; good = accepted .good }
+pub lawful-accepted : {table : Table} {s : List ℕ} → Lawful table s → length s ≤ most-requests * size
+    → Accepted table s
+lawful-accepted lawful few = record { long = record { few = few; whole = lawful .whole }; good = lawful .good }
 
 pub long-refused : (table : Table) (s : List ℕ) → most-requests * size < length s → Refused-with table s 10 0
 long-refused table s more =

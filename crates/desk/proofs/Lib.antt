@@ -3,6 +3,7 @@ pub mod SameLaws
 pub mod NamedLaws
 pub mod ListLaws
 pub mod WritingLaws
+pub mod WritingExact
 pub mod ListExact
 pub mod ListExample
 pub mod OverloadReplay

@@ -1,0 +1,138 @@
+-- The overload list, exactly: it is written where the table is overloaded and the buffer has room, and refused exactly
+-- where document 01 names that refusal. And what is written is no longer than the buffer, whatever the bytes are.
+-- Assumes nothing.
+use mathlib.Core.Bool.{true≢false}
+use mathlib.Core.Path.{_≡_, refl, sym, subst, _∙_}
+use mathlib.Core.List.{List}
+use mathlib.Core.Logic.{inl, inr}
+use Prim.Native.Nat.{ℕ, _+_, _≤_, _<_}
+use native.Mathlib.Omega.{arith}
+use lib.ListN.{length}
+use Rattle.laws.proofs.Cases.{lt-or-le}
+use Rattle.model.specs.Task.{ProperTable}
+use Rattle.model.specs.Demand.{margin}
+use Rattle.model.specs.Verdict.{horizon, Verdict, overloaded, fits, undecided, starts, verdict}
+use Rattle.model.specs.Meaning.{Calm, Means}
+use Rattle.model.specs.Answer.{Answer, answered, refused}
+use Rattle.model.proofs.ClosingLaws.{is-below, is-not-below}
+use Rattle.model.proofs.StartLaws.{starts-sixteen, starts-each, starts-past}
+use Rattle.model.proofs.VerdictLaws.{verdict-means, means-only}
+use Rattle.model.proofs.OverloadVerdict.{verdict-over}
+use Rattle.table.specs.declared.reader.Reading.{Reading}
+use Rattle.table.specs.declared.reader.Reading.the-variants as reading
+use Rattle.table.specs.Reader.{reading-of}
+use Rattle.table.specs.TableOf.{table-of}
+use Rattle.table.specs.WellFormed.{WellFormed}
+use Rattle.table.proofs.Exact.{read-good, good-read, read-refused, refused-read}
+use Rattle.table.proofs.ReadyLaws.{Bytes}
+use Rattle.table.proofs.TaskLaws.{proper-table}
+use Rattle.overload.specs.declared.write.Written.{Written}
+use Rattle.overload.specs.declared.write.Written.the-variants as written
+use Rattle.overload.specs.Place.{placed, Wrote}
+use Rattle.overload.specs.Shows.{Shows}
+use Rattle.overload.proofs.PlaceLaws.{placed-beyond, placed-within}
+use Rattle.overload.proofs.Shown.{list-shows}
+use Rattle.desk.specs.Writing.{on-overload, list-at, overload-asked}
+use Rattle.desk.specs.Writes.{Overloaded-at, Not-overloaded, No-room, Refused-with, table-bad, refuses-13, refuses-12, Writes, Told}
+
+-- ---- the verdict on bytes
+
+module _ (s : List ℕ) (bytes : Bytes s) where
+  proper : WellFormed s → ProperTable (table-of s)
+  proper well = proper-table s (λ i. bytes i .fits) well
+
+  module _ {t : ℕ} (over : Overloaded-at s t) where
+    over-verdict : verdict horizon (table-of s) ≡ overloaded t (margin (table-of s) t) (starts (table-of s) t)
+    over-verdict =
+        sym (means-only good horizon (overloaded t (margin (table-of s) t) (starts (table-of s) t))
+        (record {
+          from = over .from;
+          within = over .within;
+          below = over .below;
+          least = over .least;
+          margin-is = refl;
+          sixteen = starts-sixteen good t;
+          each = starts-each good t;
+          past = starts-past good t;
+        }))
+      where
+        good : ProperTable (table-of s)
+        good = proper (over .table-good)
+
+    over-shows : Shows (table-of s) t (list-at (table-of s) t)
+    over-shows =
+        let good = proper (over .table-good) in
+        list-shows good t (over .within) (verdict-over good over-verdict .over)
+
+  calm-13 : Calm (table-of s) horizon → (v : Verdict) → Means horizon (table-of s) v
+      → (ask : ℕ → Answer (List ℕ)) → on-overload v ask ≡ refused 13 0
+  calm-13 calm (overloaded t m first) means ask =
+      absurd (true≢false (sym (is-below (table-of s) t (means .below))
+      ∙ is-not-below (table-of s) t (calm t (means .from) (means .within))))
+  calm-13 calm (fits window m t) means ask = refl
+  calm-13 calm undecided means ask = refl
+
+module _ (s buffer : List ℕ) (place : ℕ) where
+  module _ (bytes : Bytes s) where
+    -- ---- from the bytes to the answer
+
+    over-placed : {t : ℕ} → Overloaded-at s t
+        → overload-asked s buffer place ≡ placed buffer place (list-at (table-of s) t)
+    unfolding overload-asked
+    over-placed over = rw (good-read s (over .table-good), over-verdict s bytes over)
+
+    pub over-written : (t : ℕ) → Overloaded-at s t → place + length (list-at (table-of s) t) ≤ length buffer
+        → overload-asked s buffer place ≡ answered (list-at (table-of s) t)
+    over-written t over room = over-placed over ∙ placed-within buffer place (list-at (table-of s) t) room
+
+    pub bad-unwritten : {number index : ℕ} → Refused-with s buffer place number index
+        → overload-asked s buffer place ≡ refused number index
+    unfolding overload-asked
+    bad-unwritten {number} {index} (table-bad bad) = rw (refused-read s number index bad)
+    bad-unwritten (refuses-13 none) =
+        rw (good-read s (none .table-good))
+        (calm-13 s bytes (none .calm) (verdict horizon (table-of s))
+        (verdict-means (proper s bytes (none .table-good)) horizon)
+        (λ t. placed buffer place (list-at (table-of s) t)))
+    bad-unwritten (refuses-12 full) =
+        over-placed (full .overloaded) ∙ placed-beyond buffer place (list-at (table-of s) (full .t)) (full .short)
+
+    -- ---- and back
+
+    bad-told : {number index : ℕ} → Refused-with s buffer place number index
+        → Told s buffer place (overload-asked s buffer place)
+    bad-told bad = rw (bad-unwritten bad) bad
+
+    over-told : {t : ℕ} → Overloaded-at s t → Told s buffer place (overload-asked s buffer place)
+    over-told {t} over =
+        elim (lt-or-le (length buffer) (place + length (list-at (table-of s) t))) [
+          | inl short ↦ bad-told (refuses-12 (record { t = t; overloaded = over; short = short }))
+          | inr room ↦
+              rw (over-written t over room)
+              (record { t = t; overloaded = over; shows = over-shows s bytes over; room = room })
+        ]
+
+    judged-told : WellFormed s → (v : Verdict) → Means horizon (table-of s) v
+        → Told s buffer place (overload-asked s buffer place)
+    judged-told well (overloaded t m first) means =
+        over-told (record {
+          table-good = well;
+          from = means .from;
+          within = means .within;
+          below = means .below;
+          least = means .least;
+        })
+    judged-told well (fits window m t) means = bad-told (refuses-13 (record { table-good = well; calm = means .calm }))
+    judged-told well undecided means = bad-told (refuses-13 (record { table-good = well; calm = means .calm }))
+
+    pub writing-told : Told s buffer place (overload-asked s buffer place)
+    writing-told = which (reading-of s) refl
+      where
+        which : (r : Reading) → reading-of s ≡ r → Told s buffer place (overload-asked s buffer place)
+        which (reading.Table shape) is =
+            let well = read-good s shape is in
+            judged-told well (verdict horizon (table-of s)) (verdict-means (proper s bytes well) horizon)
+        which (reading.Refused r) is = bad-told (table-bad (read-refused s r is))
+
+  -- ---- what is written is no longer than the buffer
+

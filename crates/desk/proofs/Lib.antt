@@ -4,7 +4,9 @@ pub mod NamedLaws
 pub mod ListLaws
 pub mod WritingLaws
 pub mod WritingExact
+pub mod WritingFits
 pub mod ListExact
 pub mod ListExample
 pub mod OverloadReplay
+pub mod WritingExample
 pub mod ReplayLaws

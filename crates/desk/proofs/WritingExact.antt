@@ -1,18 +1,18 @@
 -- The overload list, exactly: it is written where the table is overloaded and the buffer has room, and refused exactly
--- where document 01 names that refusal. And what is written is no longer than the buffer, whatever the bytes are.
+-- where document 01 names that refusal.
 -- Assumes nothing.
 use mathlib.Core.Bool.{true≢false}
-use mathlib.Core.Path.{_≡_, refl, sym, subst, _∙_}
+use mathlib.Core.Path.{_≡_, refl, sym, _∙_}
 use mathlib.Core.List.{List}
 use mathlib.Core.Logic.{inl, inr}
-use Prim.Native.Nat.{ℕ, _+_, _≤_, _<_}
-use native.Mathlib.Omega.{arith}
+use Prim.Native.Nat.{ℕ, _+_, _≤_}
+use lib.IntN.{ℤ}
 use lib.ListN.{length}
 use Rattle.laws.proofs.Cases.{lt-or-le}
 use Rattle.model.specs.Task.{ProperTable}
 use Rattle.model.specs.Demand.{margin}
 use Rattle.model.specs.Verdict.{horizon, Verdict, overloaded, fits, undecided, starts, verdict}
-use Rattle.model.specs.Meaning.{Calm, Means}
+use Rattle.model.specs.Meaning.{Calm, Overloaded, Means}
 use Rattle.model.specs.Answer.{Answer, answered, refused}
 use Rattle.model.proofs.ClosingLaws.{is-below, is-not-below}
 use Rattle.model.proofs.StartLaws.{starts-sixteen, starts-each, starts-past}
@@ -26,16 +26,26 @@ use Rattle.table.specs.WellFormed.{WellFormed}
 use Rattle.table.proofs.Exact.{read-good, good-read, read-refused, refused-read}
 use Rattle.table.proofs.ReadyLaws.{Bytes}
 use Rattle.table.proofs.TaskLaws.{proper-table}
-use Rattle.overload.specs.declared.write.Written.{Written}
-use Rattle.overload.specs.declared.write.Written.the-variants as written
-use Rattle.overload.specs.Place.{placed, Wrote}
+use Rattle.overload.specs.Place.{placed}
 use Rattle.overload.specs.Shows.{Shows}
 use Rattle.overload.proofs.PlaceLaws.{placed-beyond, placed-within}
 use Rattle.overload.proofs.Shown.{list-shows}
+use Rattle.desk.specs.Questions.{verdict-asked}
 use Rattle.desk.specs.Writing.{on-overload, list-at, overload-asked}
-use Rattle.desk.specs.Writes.{Overloaded-at, Not-overloaded, No-room, Refused-with, table-bad, refuses-13, refuses-12, Writes, Told}
+use Rattle.desk.specs.Writes.{Overloaded-at, Refused-with, table-bad, refuses-13, refuses-12, Told}
 
 -- ---- the verdict on bytes
+
+over-at : {s : List ℕ} → WellFormed s → {t : ℕ} {m : ℤ} {first : List ℕ}
+    → Overloaded horizon (table-of s) t m first → Overloaded-at s t
+over-at well means =
+    record {
+      table-good = well;
+      from = means .from;
+      within = means .within;
+      below = means .below;
+      least = means .least;
+    }
 
 module _ (s : List ℕ) (bytes : Bytes s) where
   proper : WellFormed s → ProperTable (table-of s)
@@ -59,11 +69,17 @@ module _ (s : List ℕ) (bytes : Bytes s) where
         good : ProperTable (table-of s)
         good = proper (over .table-good)
 
+    -- so `overloaded` at t is what a caller is told who asks for the verdict
+    pub over-judged : verdict-asked s ≡ answered (overloaded t (margin (table-of s) t) (starts (table-of s) t))
+    unfolding verdict-asked
+    over-judged = rw (good-read s (over .table-good), over-verdict)
+
     over-shows : Shows (table-of s) t (list-at (table-of s) t)
     over-shows =
         let good = proper (over .table-good) in
         list-shows good t (over .within) (verdict-over good over-verdict .over)
 
+  -- a verdict on a table without overload is one of the two others
   calm-13 : Calm (table-of s) horizon → (v : Verdict) → Means horizon (table-of s) v
       → (ask : ℕ → Answer (List ℕ)) → on-overload v ask ≡ refused 13 0
   calm-13 calm (overloaded t m first) means ask =
@@ -72,67 +88,56 @@ module _ (s : List ℕ) (bytes : Bytes s) where
   calm-13 calm (fits window m t) means ask = refl
   calm-13 calm undecided means ask = refl
 
-module _ (s buffer : List ℕ) (place : ℕ) where
-  module _ (bytes : Bytes s) where
-    -- ---- from the bytes to the answer
+module _ (s buffer : List ℕ) (place : ℕ) (bytes : Bytes s) where
+  -- ---- from the bytes to the answer
 
-    over-placed : {t : ℕ} → Overloaded-at s t
-        → overload-asked s buffer place ≡ placed buffer place (list-at (table-of s) t)
-    unfolding overload-asked
-    over-placed over = rw (good-read s (over .table-good), over-verdict s bytes over)
+  over-placed : {t : ℕ} → Overloaded-at s t
+      → overload-asked s buffer place ≡ placed buffer place (list-at (table-of s) t)
+  unfolding overload-asked
+  over-placed over = rw (good-read s (over .table-good), over-verdict s bytes over)
 
-    pub over-written : (t : ℕ) → Overloaded-at s t → place + length (list-at (table-of s) t) ≤ length buffer
-        → overload-asked s buffer place ≡ answered (list-at (table-of s) t)
-    over-written t over room = over-placed over ∙ placed-within buffer place (list-at (table-of s) t) room
+  pub over-written : (t : ℕ) → Overloaded-at s t → place + length (list-at (table-of s) t) ≤ length buffer
+      → overload-asked s buffer place ≡ answered (list-at (table-of s) t)
+  over-written t over room = over-placed over ∙ placed-within buffer place (list-at (table-of s) t) room
 
-    pub bad-unwritten : {number index : ℕ} → Refused-with s buffer place number index
-        → overload-asked s buffer place ≡ refused number index
-    unfolding overload-asked
-    bad-unwritten {number} {index} (table-bad bad) = rw (refused-read s number index bad)
-    bad-unwritten (refuses-13 none) =
-        rw (good-read s (none .table-good))
-        (calm-13 s bytes (none .calm) (verdict horizon (table-of s))
-        (verdict-means (proper s bytes (none .table-good)) horizon)
-        (λ t. placed buffer place (list-at (table-of s) t)))
-    bad-unwritten (refuses-12 full) =
-        over-placed (full .overloaded) ∙ placed-beyond buffer place (list-at (table-of s) (full .t)) (full .short)
+  pub bad-unwritten : {number index : ℕ} → Refused-with s buffer place number index
+      → overload-asked s buffer place ≡ refused number index
+  unfolding overload-asked
+  bad-unwritten {number} {index} (table-bad bad) = rw (refused-read s number index bad)
+  bad-unwritten (refuses-13 none) =
+      rw (good-read s (none .table-good))
+      (calm-13 s bytes (none .calm) (verdict horizon (table-of s))
+      (verdict-means (proper s bytes (none .table-good)) horizon)
+      (λ t. placed buffer place (list-at (table-of s) t)))
+  bad-unwritten (refuses-12 full) =
+      over-placed (full .overloaded) ∙ placed-beyond buffer place (list-at (table-of s) (full .t)) (full .short)
 
-    -- ---- and back
+  -- ---- and back
 
-    bad-told : {number index : ℕ} → Refused-with s buffer place number index
-        → Told s buffer place (overload-asked s buffer place)
-    bad-told bad = rw (bad-unwritten bad) bad
+  bad-told : {number index : ℕ} → Refused-with s buffer place number index
+      → Told s buffer place (overload-asked s buffer place)
+  bad-told bad = rw (bad-unwritten bad) bad
 
-    over-told : {t : ℕ} → Overloaded-at s t → Told s buffer place (overload-asked s buffer place)
-    over-told {t} over =
-        elim (lt-or-le (length buffer) (place + length (list-at (table-of s) t))) [
-          | inl short ↦ bad-told (refuses-12 (record { t = t; overloaded = over; short = short }))
-          | inr room ↦
-              rw (over-written t over room)
-              (record { t = t; overloaded = over; shows = over-shows s bytes over; room = room })
-        ]
+  over-told : {t : ℕ} → Overloaded-at s t → Told s buffer place (overload-asked s buffer place)
+  over-told {t} over =
+      elim (lt-or-le (length buffer) (place + length (list-at (table-of s) t))) [
+        | inl short ↦ bad-told (refuses-12 (record { t = t; overloaded = over; short = short }))
+        | inr room ↦
+            rw (over-written t over room)
+            (record { t = t; overloaded = over; shows = over-shows s bytes over; room = room })
+      ]
 
-    judged-told : WellFormed s → (v : Verdict) → Means horizon (table-of s) v
-        → Told s buffer place (overload-asked s buffer place)
-    judged-told well (overloaded t m first) means =
-        over-told (record {
-          table-good = well;
-          from = means .from;
-          within = means .within;
-          below = means .below;
-          least = means .least;
-        })
-    judged-told well (fits window m t) means = bad-told (refuses-13 (record { table-good = well; calm = means .calm }))
-    judged-told well undecided means = bad-told (refuses-13 (record { table-good = well; calm = means .calm }))
+  judged-told : WellFormed s → (v : Verdict) → Means horizon (table-of s) v
+      → Told s buffer place (overload-asked s buffer place)
+  judged-told well (overloaded t m first) means = over-told (over-at well means)
+  judged-told well (fits window m t) means = bad-told (refuses-13 (record { table-good = well; calm = means .calm }))
+  judged-told well undecided means = bad-told (refuses-13 (record { table-good = well; calm = means .calm }))
 
-    pub writing-told : Told s buffer place (overload-asked s buffer place)
-    writing-told = which (reading-of s) refl
-      where
-        which : (r : Reading) → reading-of s ≡ r → Told s buffer place (overload-asked s buffer place)
-        which (reading.Table shape) is =
-            let well = read-good s shape is in
-            judged-told well (verdict horizon (table-of s)) (verdict-means (proper s bytes well) horizon)
-        which (reading.Refused r) is = bad-told (table-bad (read-refused s r is))
-
-  -- ---- what is written is no longer than the buffer
-
+  pub writing-told : Told s buffer place (overload-asked s buffer place)
+  writing-told = which (reading-of s) refl
+    where
+      which : (r : Reading) → reading-of s ≡ r → Told s buffer place (overload-asked s buffer place)
+      which (reading.Table shape) is =
+          let well = read-good s shape is in
+          judged-told well (verdict horizon (table-of s)) (verdict-means (proper s bytes well) horizon)
+      which (reading.Refused r) is = bad-told (table-bad (read-refused s r is))

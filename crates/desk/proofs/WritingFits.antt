@@ -1,0 +1,63 @@
+-- The overload list that is written is no longer than the buffer, whatever the bytes are: what a caller that slices its
+-- buffer asks.
+-- Assumes nothing.
+use mathlib.Core.Path.{_≡_, sym, _∙_}
+use mathlib.Core.List.{List}
+use mathlib.Core.Logic.{inl, inr}
+use Prim.Native.Nat.{ℕ, _+_, _≤_}
+use native.Mathlib.Omega.{arith}
+use lib.ListN.{length}
+use Rattle.laws.proofs.Cases.{lt-or-le}
+use Rattle.model.specs.Task.{Table}
+use Rattle.model.specs.Verdict.{horizon, Verdict, overloaded, fits, undecided, verdict}
+use Rattle.model.specs.Answer.{Answer, answered, refused}
+use Rattle.table.specs.declared.reader.Reading.{Reading}
+use Rattle.table.specs.declared.reader.Reading.the-variants as reading
+use Rattle.table.specs.Reader.{reading-of}
+use Rattle.table.specs.TableOf.{table-of}
+use Rattle.overload.specs.declared.write.Written.{Written}
+use Rattle.overload.specs.declared.write.Written.the-variants as written
+use Rattle.overload.specs.Place.{placed, written-of, Wrote}
+use Rattle.overload.proofs.PlaceLaws.{placed-beyond, placed-within}
+use Rattle.desk.specs.Questions.{after-reading}
+use Rattle.desk.specs.Writing.{on-overload, list-at, overload-asked}
+
+-- what is answered is no longer than the buffer; of a refusal nothing is asked
+abbrev Fitting : List ℕ → Answer (List ℕ) → Type 0
+Fitting buffer (answered list) = length list ≤ length buffer
+Fitting buffer (refused number index) = Unit {0}
+
+module _ (buffer : List ℕ) (place : ℕ) where
+  placed-fits : (list : List ℕ) → Fitting buffer (placed buffer place list)
+  placed-fits list =
+      elim (lt-or-le (length buffer) (place + length list)) [
+        | inl beyond ↦ rw (placed-beyond buffer place list beyond) tt
+        | inr within ↦ rw (placed-within buffer place list within) (omega arith)
+      ]
+
+  -- each of the ways through the question
+  way-fits : (r : Reading) (v : Verdict) (table : Table)
+      → Fitting buffer (after-reading r (on-overload v (λ t. placed buffer place (list-at table t))))
+  way-fits (reading.Refused r) v table = tt
+  way-fits (reading.Table shape) (overloaded t m starts) table = placed-fits (list-at table t)
+  way-fits (reading.Table shape) (fits window m t) table = tt
+  way-fits (reading.Table shape) undecided table = tt
+
+  asked-fits : (s : List ℕ) → Fitting buffer (overload-asked s buffer place)
+  unfolding overload-asked
+  asked-fits s = way-fits (reading-of s) (verdict horizon (table-of s)) (table-of s)
+
+  count-fits : (said : Answer (List ℕ)) {n : ℕ} → Fitting buffer said → written.Bytes n ≡ written-of said
+      → n ≤ length buffer
+  count-fits (answered list) {n} fitting is = let count : n ≡ length list = cc in omega arith
+  count-fits (refused number index) fitting is = let apart : _≡_ {A = ℕ} 0 1 = cc in absurd (omega arith)
+
+module _ (s buffer : List ℕ) (place : ℕ) where
+  pub written-fits : {list : List ℕ} → overload-asked s buffer place ≡ answered list → length list ≤ length buffer
+  written-fits is = rw is at (asked-fits buffer place s)
+
+  pub wrote-fits : {r : Written} {after : List ℕ} {n : ℕ} → Wrote buffer place (overload-asked s buffer place) r after
+      → r ≡ written.Bytes n → n ≤ length buffer
+  wrote-fits wrote is =
+      count-fits buffer place (overload-asked s buffer place) (asked-fits buffer place s)
+      (sym is ∙ wrote .answer-is)

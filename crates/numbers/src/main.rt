@@ -35,10 +35,10 @@ fn answer_case(name: &[u8], case: Case, table: &[u8], list: &[u8], many: usize)
 {
     let kind = case.kind;
     let size = case.size;
-    say::say(name);
-    say::say(b": ");
+    out::say(name);
+    out::say(b": ");
     answer(kind, case.first, case.second, &table[..size], &list[..many]);
-    say::say(b"\n");
+    out::say(b"\n");
 }
 
 fn answer_lent(number: u64, name: &[u8], case: Case, table: &[u8], list: &[u8], lent: Lent)
@@ -46,7 +46,7 @@ fn answer_lent(number: u64, name: &[u8], case: Case, table: &[u8], list: &[u8], 
 {
     match lent {
         Lent::Bytes(many) => answer_case(name, case, table, list, many),
-        Lent::Not(why) => say::say_problem(number, why),
+        Lent::Not(why) => out::say_problem(number, why),
     }
 }
 
@@ -66,7 +66,7 @@ fn answer_parsed(number: u64, line: &[u8], name: &[u8], parsed: Parsed, table: &
 {
     match parsed {
         Parsed::Good(case) => answer_list(number, line, name, case, table),
-        Parsed::Bad(why) => say::say_problem(number, why),
+        Parsed::Bad(why) => out::say_problem(number, why),
     }
 }
 

@@ -13,14 +13,14 @@ fn write_first(table: &[u8], buffer: &mut [u8], size: usize, place: usize)
 {
     let written = desk::write_overload(table, &mut buffer[..size], place);
     say::say_written(written);
-    say::say(b" ");
-    say::say_bytes(&buffer[..size]);
+    out::say(b" ");
+    out::say_bytes(&buffer[..size]);
 }
 
 // The overload list from a place of a buffer of `size` bytes, each of them ee before.
 pub fn write_into(table: &[u8], size: u64, place: u64) {
     if (MOST as u64) < size {
-        say::say(b"cannot be asked: the buffer is longer than 2048 bytes");
+        out::say(b"cannot be asked: the buffer is longer than 2048 bytes");
         return;
     }
     let mut space = [238u8; MOST];
@@ -31,9 +31,9 @@ pub fn write_into(table: &[u8], size: u64, place: u64) {
 fn replay_first(table: &[u8], buffer: &[u8], n: usize)
     requires { ⌜ n ≤ length (now buffer) ⌝ }
 {
-    say::say(b"records=");
-    say::say_number((n / SIZE) as u64);
-    say::say(b" ");
+    out::say(b"records=");
+    out::say_number((n / SIZE) as u64);
+    out::say(b" ");
     say::say_ending(desk::replay(table, &buffer[..n]));
 }
 
@@ -41,7 +41,7 @@ fn write_then_replay(table: &[u8], buffer: &mut [u8]) {
     let written = desk::write_overload(table, buffer, 0);
     match written {
         Written::Bytes(n) => replay_first(table, buffer, n),
-        Written::Refused(no) => say::say_refusal(no),
+        Written::Refused(no) => out::say_refusal(no),
     }
 }
 

@@ -1,6 +1,4 @@
-// The desk's answers, and what is wrong with a line, in words on standard output.
-ghost use mathlib.Core.Path.{_≡_};
-ghost use lib.IntN.{natAbs};
+// The desk's answers in words, on standard output.
 use bench::replay::Replayed;
 use desk::Amount;
 use desk::Ending;
@@ -8,48 +6,16 @@ use desk::Judged;
 use desk::Judgement;
 use desk::Spare;
 use desk::Window;
-use libc::STDOUT_FILENO;
-use lines::words::Problem;
-use lines::words::What;
+use out::say;
+use out::say_number;
+use out::say_refusal;
+use out::say_signed;
 use overload::write::Written;
 use requests::reader::Checked;
 use table::reader::Reading;
-use table::reader::Refusal;
 use text::wide;
 use verdict::judge::Verdict;
 use verdict::window::Closing;
-
-pub fn say(words: &[u8]) {
-    io::write_all(STDOUT_FILENO, words);
-}
-
-pub fn say_number(n: u64) {
-    io::print_decimal(STDOUT_FILENO, n);
-}
-
-// How far m is from zero. -1 - m fits where 0 - m does not, at the least number of 64 bits.
-fn magnitude(m: i64) -> u64
-    ensures { λ r. ⌜ r ≡ natAbs m ⌝ }
-{
-    if m < 0 {
-        return (-1 - m) as u64 + 1;
-    }
-    m as u64
-}
-
-fn say_signed(m: i64) {
-    if m < 0 {
-        say(b"-");
-    }
-    say_number(magnitude(m));
-}
-
-pub fn say_refusal(r: Refusal) {
-    say(b"refused ");
-    say_number(wide(r.number));
-    say(b" ");
-    say_number(r.index as u64);
-}
 
 pub fn say_reading(r: Reading) {
     match r {
@@ -179,22 +145,6 @@ pub fn say_ending(e: Ending) {
     }
 }
 
-fn say_byte(b: u8) {
-    say(&[text::hex_digit(b / 16), text::hex_digit(b % 16)]);
-}
-
-// In hex, and - for none, as they are asked.
-pub fn say_bytes(bytes: &[u8]) {
-    if bytes.len() == 0 {
-        say(b"-");
-    }
-    let mut i: usize = 0;
-    while i < bytes.len() {
-        say_byte(bytes[i]);
-        i += 1;
-    }
-}
-
 pub fn say_written(w: Written) {
     match w {
         Written::Bytes(n) => {
@@ -203,32 +153,4 @@ pub fn say_written(w: Written) {
         }
         Written::Refused(no) => say_refusal(no),
     }
-}
-
-fn say_what(what: What) {
-    match what {
-        What::Table => say(b"the table"),
-        What::List => say(b"the list"),
-    }
-}
-
-fn say_of(what: What, words: &[u8]) {
-    say_what(what);
-    say(words);
-}
-
-// What is wrong with a line, by the line's number in the file.
-pub fn say_problem(line: u64, why: Problem) {
-    say(b"line ");
-    say_number(line);
-    say(b": cannot be read: ");
-    match why {
-        Problem::NoQuestion => say(b"no such question"),
-        Problem::NoNumber => say(b"a number is missing or not a number"),
-        Problem::Missing(what) => say_of(what, b" is missing"),
-        Problem::NotHex(what) => say_of(what, b" is not hex"),
-        Problem::TooLong(what) => say_of(what, b" is too long for the buffer"),
-        Problem::Follows => say(b"something follows the last word"),
-    }
-    say(b"\n");
 }

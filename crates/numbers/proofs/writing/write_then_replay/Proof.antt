@@ -1,7 +1,7 @@
 -- `write_then_replay` is safe: a list that was written lies within the buffer.
 -- Assumes nothing.
 use borrow.Author.Needs.{needs}
-use Rattle.desk.proofs.WritingExact.{wrote-fits}
+use Rattle.desk.proofs.WritingFits.{wrote-fits}
 use Rattle.numbers.proofs.writing.write_then_replay.Statement.{statement}
 use Rattle.numbers.proofs.writing.write_then_replay.Tie as tie
 

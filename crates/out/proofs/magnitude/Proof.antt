@@ -1,8 +1,8 @@
 -- `magnitude` meets its contract, by the laws of -1 - m.
 -- Assumes nothing.
-use Rattle.say.proofs.Signed.{less-fits, less-casts, more-fits, more-is, whole-casts, whole-is}
-use Rattle.say.proofs.magnitude.Statement.{statement}
-use Rattle.say.proofs.magnitude.Tie as tie
+use Rattle.out.proofs.Signed.{less-fits, less-casts, more-fits, more-is, whole-casts, whole-is}
+use Rattle.out.proofs.magnitude.Statement.{statement}
+use Rattle.out.proofs.magnitude.Tie as tie
 
 sub-result : tie.Need-sub-result
 sub-result c = less-fits (c .before .fits .m) (c .if1 .taken)

@@ -7,8 +7,10 @@ use Rattle.numbers.proofs.writing.write_then_replay.Tie as tie
 
 replay-first-requires : tie.Need-replay-first-requires
 replay-first-requires c κs =
-    let told = c .before in
-    wrote-fits _ _ _ (told .before .before .before .write-overload .ensures) (told .written .given .1)
+    let told = c .before .before in
+    let back = told .before .before .before in
+    let fits = wrote-fits _ _ _ (back .before .write-overload .ensures) (told .written .given .1) in
+    search needs
 
 pub write-then-replay-spec : {M : Type 1} → statement M
 write-then-replay-spec =

@@ -28,7 +28,6 @@ fn magnitude(m: i64) -> u64
 pub fn say_signed(m: i64) {
     if m < 0 {
         say(b"-");
-        return;
     }
     say_number(magnitude(m));
 }

@@ -15,9 +15,9 @@ returns : tie.Need-returns
 unfolding horizon
 returns c =
     let judged = c .before .before in
-    let read = judged .before .before .before .before .pre in
+    let known = judged .before .before .before in
     writing-refused _ _ (c .refuse .ensures)
-    (not-overloaded _ _ read (judged .judge-to .ensures) _ _ (c .before .match .keys2))
+    (not-overloaded _ _ (known .before .pre) (judged .judge-to .ensures) _ _ (c .before .match .keys2))
 
 write-list-requires : tie.Need-write-list-requires
 unfolding horizon
@@ -32,7 +32,8 @@ returns-2 : tie.Need-returns-2
 unfolding horizon
 returns-2 c =
     let wrote = c .before .before in
-    let told = wrote .before .before .before .before in
+    let asked = wrote .before in
+    let told = asked .before .before .before in
     let judged = told .before .before in
     let known = judged .before .before .before in
     rw (← overload-answered _ _ (known .before .pre) (judged .judge-to .ensures) (told .said .given .1) _ _)

@@ -16,7 +16,8 @@ count-frames-requires c κs =
 
 cast-frame : tie.Need-cast-frame
 cast-frame c =
-    let counted = c .before .before .before .before in
+    let read = c .before .before .before in
+    let counted = read .before in
     record { fits = omega (arith, next-low _ (counted .count-frames .ensures) (c .following .ensures)) }
 
 returns : tie.Need-returns

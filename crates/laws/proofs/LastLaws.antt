@@ -9,11 +9,6 @@ use native.Mathlib.Omega.{arith}
 use Rattle.laws.specs.Search.{up-to-last}
 use Rattle.laws.proofs.Cases.{lt-or-le, lt-or-last}
 
--- number m passes, and is one of those tried
-pub record Hit (test : ℕ → Bool) (n m : ℕ) : Type 0 where
-  pub passes : test m ≡ true
-  pub within : m < n
-
 module _ (test : ℕ → Bool) where
   pub last-none : up-to-last test 0 ≡ 0
   unfolding up-to-last
@@ -42,17 +37,13 @@ module _ (test : ℕ → Bool) where
       same less = omega arith
 
   -- the last of them passes
-  pub last-passes : (n m : ℕ) → up-to-last test n ≡ suc m → Hit test n m
+  pub last-passes : (n m : ℕ) → up-to-last test n ≡ suc m → test m ≡ true
   last-passes zero m found = absurd (omega (arith, last-none))
   last-passes (suc n) m found = which (test n) refl (last-passes n m)
     where
-      which : (x : Bool) → test n ≡ x → (up-to-last test n ≡ suc m → Hit test n m) → Hit test (suc n) m
-      which true passes rest =
-          let here : m ≡ n = omega (arith, last-hit n passes) in
-          record { passes = ap test here ∙ passes; within = omega arith }
-      which false fails rest =
-          let before = rest (sym (last-miss n fails) ∙ found) in
-          record { passes = before .passes; within = le-step (before .within) }
+      which : (x : Bool) → test n ≡ x → (up-to-last test n ≡ suc m → test m ≡ true) → test m ≡ true
+      which true passes rest = let here : m ≡ n = omega (arith, last-hit n passes) in ap test here ∙ passes
+      which false fails rest = rest (sym (last-miss n fails) ∙ found)
 
   -- and none after it does
   pub last-past : (n j : ℕ) → up-to-last test n ≤ j → j < n → test j ≡ false

@@ -1,3 +1,4 @@
+pub mod Adding
 pub mod Cases
 pub mod Countdown
 pub mod Every

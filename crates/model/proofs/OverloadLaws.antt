@@ -1,38 +1,25 @@
 -- The overload list asks of the time up to t the demand at t, has a request where there is a demand, and none that
 -- comes at t or later. Nothing is used of the list but that it is woven from the overload's runs.
 -- Assumes nothing.
-use mathlib.Core.Path.{_≡_, refl, _∙_}
+use mathlib.Core.Path.{_≡_, _∙_}
 use mathlib.Core.Logic.{inl, inr}
-use Prim.Native.Nat.{ℕ, suc, _+_, _≤_, _<_}
+use Prim.Native.Nat.{ℕ, _+_, _≤_, _<_}
 use native.Mathlib.Omega.{arith}
-use lib.Dec.{leb, eqb}
-use borrow.Author.Tests.{eq-eqb}
+use lib.Dec.{leb}
 use Rattle.laws.specs.Sums.{sum, only}
 use Rattle.laws.proofs.Cases.{lt-or-le}
-use Rattle.laws.proofs.SumLaws.{sum-zero, sum-cong, sum-longer}
-use Rattle.laws.proofs.TallyLaws.{tally-passed}
+use Rattle.laws.proofs.SumLaws.{sum-zero, sum-cong}
 use Rattle.model.specs.Task.{Table, ProperTable}
 use Rattle.model.specs.Demand.{part, demand, all-demands}
 use Rattle.model.specs.Verdict.{start}
 use Rattle.model.specs.Request.{Request, Requests, of-task}
 use Rattle.model.specs.Jobs.{jobs-of}
-use Rattle.model.specs.Weave.{Runs, Woven}
+use Rattle.model.specs.Weave.{Woven}
 use Rattle.model.specs.Overload.{requests-by, overload-runs, asked-by}
 use Rattle.model.proofs.StartLaws.{start-right}
 use Rattle.model.proofs.DueLaws.{run-near, requests-counted}
 use Rattle.model.proofs.WovenSums.{woven-sum}
-
--- a request in the list is one of those that its task makes
-turn-below : {table : Table} {runs : Runs} {list : Requests} → Woven table runs list → (i : ℕ) → i < list .count
-    → of-task list (list .request i .task) i < runs .many (list .request i .task)
-turn-below {list = list} woven i inside =
-    let k = list .request i .task in
-    omega (
-      arith,
-      tally-passed (λ j. eqb (list .request j .task) k) i (eq-eqb k k refl),
-      sum-longer (suc i) (list .count) (λ j. only (eqb (list .request j .task) k) 1) inside,
-      woven .all k (woven .known i inside),
-    )
+use Rattle.model.proofs.WovenOne.{woven-left}
 
 module _ {table : Table} (good : ProperTable table) (t : ℕ) where
   pub overload-inside : (k : ℕ) → k < table .tasks → start (table .task k) t < table .task k .count
@@ -72,4 +59,4 @@ module _ {table : Table} (good : ProperTable table) (t : ℕ) where
         let k = list .request i .task in
         rw (woven .in-turn i inside)
         (run-near (good .proper k (woven .known i inside)) (start (table .task k) t) t (of-task list k i)
-        (turn-below woven i inside))
+        (woven-left woven i inside))

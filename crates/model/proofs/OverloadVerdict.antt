@@ -17,7 +17,6 @@ use Rattle.model.proofs.StartLaws.{starts-only}
 use Rattle.model.proofs.VerdictLaws.{verdict-means}
 
 pub record Over (limit : ℕ) (table : Table) (t : ℕ) (first : List ℕ) : Type 0 where
-  pub from : 1 ≤ t
   pub within : t ≤ limit
   pub over : t < all-demands table t
   pub starts-are : first ≡ starts table t
@@ -26,7 +25,6 @@ pub verdict-over : {table : Table} → ProperTable table → {limit t : ℕ} {m 
     → verdict limit table ≡ overloaded t m first → Over limit table t first
 verdict-over {table} good {limit} {t} {m} {first} is =
     record {
-      from = says .from;
       within = says .within;
       over =
           elim (lt-or-le t (all-demands table t)) [

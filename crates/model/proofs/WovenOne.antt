@@ -54,8 +54,9 @@ module _ {table : Table} {runs : Runs} {list : Requests} (woven : Woven table ru
       ∙ sum-cong (table .tasks) (λ k. of-task list k (list .count)) (runs .many) (woven .all)
 
   -- request i is one that its task makes
-  one-left : (i : ℕ) → i < list .count → of-task list (list .request i .task) i < runs .many (list .request i .task)
-  one-left i within =
+  pub woven-left : (i : ℕ) → i < list .count
+      → of-task list (list .request i .task) i < runs .many (list .request i .task)
+  woven-left i within =
       let k = list .request i .task in
       omega (
         arith,
@@ -104,7 +105,7 @@ module _ {table : Table} {runs : Runs} {a b : Requests} (one : Woven table runs 
         let k = b .request i .task in
         let so-far = of-task-same a b i agree k in
         subst (Before (a .request i)) (ap (earliest table runs k) so-far ∙ sym (other .in-turn i inside))
-        (before-others one i k within (other .known i inside) (omega (arith, so-far, one-left other i inside)) differ)
+        (before-others one i k within (other .known i inside) (omega (arith, so-far, woven-left other i inside)) differ)
 
     together : a .request i .task ≡ b .request i .task → a .request i ≡ b .request i
     together same =

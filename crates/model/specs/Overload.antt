@@ -1,7 +1,8 @@
 -- The overload list: document 01, "What the desk computes".
 -- Assumes nothing.
-use mathlib.Core.Bool.{Bool}
-use Prim.Native.Nat.{ℕ, suc, _+_}
+use mathlib.Core.Bool.{Bool, true, false}
+use mathlib.Core.Path.{_≡_}
+use Prim.Native.Nat.{ℕ, suc, _+_, _≤_}
 use lib.Dec.{leb}
 use Rattle.laws.specs.Sums.{sum, only}
 use Rattle.laws.specs.Search.{up-to-last}
@@ -21,6 +22,11 @@ due-by task s t n = leb (offset task s n + task .D (frame task s n)) t
 -- Requests 0 to t are all that can be due by t: each P is at least 1, so request n comes at n or later.
 unfoldable pub requests-by : Task → ℕ → ℕ → ℕ
 requests-by task s t = up-to-last (due-by task s t) (suc t)
+
+-- what the number says: the last of the requests is due by t, and none after it is
+pub record Up-to-last-due (task : Task) (s t many : ℕ) : Type 0 where
+  pub last : (n : ℕ) → many ≡ suc n → due-by task s t n ≡ true
+  pub past : (n : ℕ) → many ≤ n → due-by task s t n ≡ false
 
 -- "For each task, from its start frame"
 abbrev pub overload-runs : Table → ℕ → Runs

@@ -1,5 +1,6 @@
 // The questions whose answer is written into a buffer.
 use overload::write::Written;
+use table::reader::Refusal;
 use table::record::SIZE;
 ghost use Prim.Native.Nat.{_≤_};
 ghost use lib.ListN.{length};
@@ -37,11 +38,20 @@ fn replay_first(table: &[u8], buffer: &[u8], n: usize)
     say::say_ending(desk::replay(table, &buffer[..n]));
 }
 
+// Of the whole buffer only a list that is too long for it is refused 12, and no one asked about the buffer.
+fn say_unwritten(no: Refusal) {
+    if no.number == 12 {
+        out::say(b"cannot be asked: the list is longer than 2048 bytes");
+        return;
+    }
+    out::say_refusal(no);
+}
+
 fn write_then_replay(table: &[u8], buffer: &mut [u8]) {
     let written = desk::write_overload(table, buffer, 0);
     match written {
         Written::Bytes(n) => replay_first(table, buffer, n),
-        Written::Refused(no) => out::say_refusal(no),
+        Written::Refused(no) => say_unwritten(no),
     }
 }
 

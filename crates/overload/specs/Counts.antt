@@ -13,6 +13,7 @@ use Rattle.model.specs.Overload.{requests-by}
 use Rattle.table.specs.TableOf.{table-of}
 use Rattle.table.specs.Ready.{Ready}
 use Rattle.table.specs.declared.plan.Plan.{Plan}
+use Rattle.requests.specs.Entry.{widest}
 use Rattle.sums.specs.Sized.{ceiling}
 
 -- the list is asked for at t, from these start frames on
@@ -31,10 +32,6 @@ many-in table t k = cond (ltb k (table .tasks)) (requests-by (table .task k) (st
 
 unfoldable pub counts : Table → ℕ → List ℕ
 counts table t = tabulate 16 (many-in table t)
-
--- the greatest number of 32 bits
-abbrev pub widest : ℕ
-widest = 4294967295
 
 pub record Totalled (many : List ℕ) (tasks r : ℕ) : Type 0 where
   pub is : r ≡ sum tasks (λ k. getD many k 0)

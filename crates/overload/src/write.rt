@@ -6,8 +6,8 @@ ghost use mathlib.Core.Path.{_≡_};
 ghost use Prim.Native.Nat.{_≤_};
 ghost use Rattle.model.specs.Overload.{overload-list};
 ghost use Rattle.table.specs.TableOf.{table-of};
-ghost use Rattle.requests.specs.Entry.{bytes-of};
-ghost use Rattle.overload.specs.Counts.{Asked, widest, Totalled};
+ghost use Rattle.requests.specs.Entry.{widest, bytes-of};
+ghost use Rattle.overload.specs.Counts.{Asked, Totalled};
 ghost use Rattle.overload.specs.Place.{placed, Wrote};
 
 // How many bytes were written, or the refusal.

@@ -1,6 +1,6 @@
 -- A list as bytes: how many bytes they are, and that they read back as the list, with zero pads.
 -- Assumes nothing.
-use Prim.Native.Nat.{ℕ, zero, suc, _+_, _*_, _/_, _%_, _<_}
+use Prim.Native.Nat.{ℕ, zero, suc, _+_, _*_, _/_, _%_, _≤_, _<_}
 use mathlib.Core.Path.{_≡_, refl, ap, ap₂, _∙_}
 use mathlib.Core.Logic.{inl, inr}
 use mathlib.Core.List.{_++_}
@@ -10,7 +10,7 @@ use native.Mathlib.Omega.{arith}
 use Rattle.laws.proofs.Cases.{lt-or-le}
 use Rattle.model.specs.Request.{Requests, Same}
 use Rattle.table.specs.Bytes.{size}
-use Rattle.requests.specs.Entry.{entry-of, request-in, list-of, entry-bytes, bytes-to, bytes-of}
+use Rattle.requests.specs.Entry.{entry-of, request-in, list-of, widest, entry-bytes, bytes-to, bytes-of}
 
 pub bytes-length : (list : Requests) (n : ℕ) → length (bytes-to list n) ≡ n * size
 unfolding bytes-to
@@ -52,11 +52,11 @@ byte-at list (suc n) i within at place is inside =
     ]
 
 -- "32 bits low byte first": the four bytes of a number that has no more make the number
-four-bytes : (a : ℕ) → a < 4294967296 →
+four-bytes : (a : ℕ) → a ≤ widest →
     (a % 256 + 256 * (a / 256 % 256)) + 65536 * (a / 65536 % 256 + 256 * (a / 16777216)) ≡ a
 four-bytes a short = omega arith
 
-module _ (list : Requests) (short : (i : ℕ) → i < list .count → list .request i .arrival < 4294967296) where
+module _ (list : Requests) (short : (i : ℕ) → i < list .count → list .request i .arrival ≤ widest) where
   entry-back : (i : ℕ) → i < list .count → let x = list .request i in
       entry-of (bytes-of list) i ≡ record { task = x .task; frame = x .frame; pad = 0; arrival = x .arrival }
   unfolding entry-of

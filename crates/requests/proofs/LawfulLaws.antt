@@ -11,7 +11,7 @@ use Rattle.model.specs.Task.{Table}
 use Rattle.model.specs.Request.{Request, Requests, Legal, Sorted, last-arrival}
 use Rattle.model.proofs.WovenLegal.{same-legal, same-sorted}
 use Rattle.table.specs.Bytes.{size, records}
-use Rattle.requests.specs.Entry.{bytes-of}
+use Rattle.requests.specs.Entry.{widest, bytes-of}
 use Rattle.requests.specs.Reader.{most-requests}
 use Rattle.requests.specs.Accepted.{Lawful, Accepted}
 use Rattle.requests.specs.Refusals.{Refused-with}
@@ -23,7 +23,7 @@ use Rattle.requests.proofs.BytesLaws.{bytes-length, read-back, pads-zer
 module _ {table : Table} (list : Requests) (legal : Legal table list) (sorted : Sorted list)
     (near : (i : ℕ) → i < list .count → list .request i .arrival ≤ last-arrival) where
   -- an arrival that is not late has no more than its four bytes
-  short : (i : ℕ) → i < list .count → list .request i .arrival < 4294967296
+  short : (i : ℕ) → i < list .count → list .request i .arrival ≤ widest
   unfolding last-arrival
   short i within = omega (arith, near i within)
 

@@ -30,6 +30,11 @@ list-of s = record { count = records s; request = λ i. request-in (entry-of s i
 
 -- ---- the other way: a list as bytes
 
+-- the greatest number of 32 bits
+abbrev pub widest : ℕ
+widest = 4294967295
+
+-- where the arrival is at most that, its fourth byte is all that is left
 abbrev pub entry-bytes : Request → List ℕ
 entry-bytes x =
     let a = x .arrival in

@@ -10,7 +10,7 @@ use lib.ListN.{length, getD}
 use borrow.Author.Tests.{lt-ltb, le-ltb, le-leb, lt-leb, leb-true, eq-eqb, ne-eqb}
 use Rattle.laws.proofs.Every.{and-true-left}
 use Rattle.text.specs.declared.Number.the-variants.{Is, Not}
-use Rattle.text.specs.Digits.{between, digit-of, longer, number-from, number-of}
+use Rattle.text.specs.Digits.{between, digit-of, hex-digit, longer, number-from, number-of}
 use Rattle.laws.proofs.Countdown.{all-left, one-less, none-left}
 
 pub between-above : (low b high k : ℕ) → k ≤ low → between low b high ≡ true → k ≤ b
@@ -34,14 +34,17 @@ module _ (b : ℕ) where
   unfolding digit-of
   digit-none d e f = simp (d, e, f)
 
--- the digit of a number, below 10 and from there on
-pub below-ten : (n : ℕ) → n < 10 → digit-of (48 + n) ≡ n
-unfolding digit-of
-below-ten n low = rw (le-leb 48 (48 + n) (omega arith), le-leb (48 + n) 57 (omega arith)) (omega arith)
+-- the digit of a number, below 10 and from there on: which it is, and that it is read as the number
+module _ (n : ℕ) where
+  pub below-ten : n < 10 → (48 + n ≡ hex-digit n) × (digit-of (48 + n) ≡ n)
+  unfolding digit-of
+  below-ten low =
+      (rw (lt-ltb n 10 low), rw (le-leb 48 (48 + n) (omega arith), le-leb (48 + n) 57 (omega arith)) (omega arith))
 
-pub from-ten : (n : ℕ) → 10 ≤ n → n < 16 → digit-of (87 + n) ≡ n
-unfolding digit-of
-from-ten n high low =
+  pub from-ten : 10 ≤ n → n < 16 → (87 + n ≡ hex-digit n) × (digit-of (87 + n) ≡ n)
+  unfolding digit-of
+  from-ten high low = (
+    rw (le-ltb n 10 high),
     rw (
       le-leb 48 (87 + n) (omega arith),
       lt-leb (87 + n) 57 (omega arith),
@@ -50,7 +53,8 @@ from-ten n high low =
       le-leb 97 (87 + n) (omega arith),
       le-leb (87 + n) 102 (omega arith),
     )
-    (omega arith)
+        (omega arith),
+  )
 
 -- a digit behind n
 module _ (n b : ℕ) where

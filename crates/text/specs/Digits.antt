@@ -17,6 +17,10 @@ unfoldable pub digit-of : ℕ → ℕ
 digit-of b =
     cond (between 48 b 57) (b - 48) (cond (between 65 b 70) (b - 55) (cond (between 97 b 102) (b - 87) 16))
 
+-- and the digit of a value below 16, in lower case
+abbrev pub hex-digit : ℕ → ℕ
+hex-digit n = cond (ltb n 10) (48 + n) (87 + n)
+
 -- the number n with one decimal digit more behind it, where 64 bits hold it
 unfoldable pub longer : ℕ → ℕ → Number
 longer n b = cond (ltb 9 (digit-of b)) Not (cond (ltb (10 * n + digit-of b) (2 ^ 64)) (Is (10 * n + digit-of b)) Not)

@@ -2,7 +2,7 @@
 ghost use mathlib.Core.Path.{_≡_};
 ghost use Prim.Native.Nat.{_<_, _≤_};
 ghost use lib.ListN.{length};
-ghost use Rattle.text.specs.Digits.{between, digit-of, longer, number-of};
+ghost use Rattle.text.specs.Digits.{between, digit-of, hex-digit, longer, number-of};
 ghost use Rattle.text.specs.Hex.{Spells, Fills, pair-of, filled-of, filled-with};
 ghost use Rattle.text.specs.Text.{Alike, First, Next, space, of-sort};
 
@@ -122,7 +122,7 @@ fn digit(b: u8) -> u8
 // The hex digit of a number below 16, in lower case.
 pub fn hex_digit(n: u8) -> u8
     requires { ⌜ n < 16 ⌝ }
-    ensures { λ r. ⌜ digit-of r ≡ n ⌝ }
+    ensures { λ r. ⌜ (r ≡ hex-digit n) × (digit-of r ≡ n) ⌝ }
 {
     if n < 10 { 48 + n } else { 87 + n }
 }

@@ -1,4 +1,4 @@
--- `hex_digit` meets its contract: its digit is read as the number.
+-- `hex_digit` meets its contract: its digit is in lower case, and is read as the number.
 -- Assumes nothing.
 use borrow.Author.Needs.{needs}
 use Rattle.text.proofs.DigitLaws.{below-ten, from-ten}

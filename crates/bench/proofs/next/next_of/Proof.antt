@@ -1,5 +1,6 @@
 -- `next_of` meets its contract. The invariant: the best of the slots below i is known (`Tried`).
--- The measure is the number of slots left. Assumes nothing.
+-- The measure is the number of slots left.
+-- Assumes nothing.
 use Prim.Native.Nat.{_-_}
 use mathlib.Core.Path.{refl}
 use borrow.Author.Needs.{needs}

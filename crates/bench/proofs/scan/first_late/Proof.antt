@@ -1,5 +1,6 @@
 -- `first_late` meets its contract. The invariant: the slots from i on give what all of them give (`Seeking`).
--- The measure is the number of slots left. Assumes nothing.
+-- The measure is the number of slots left.
+-- Assumes nothing.
 use Prim.Native.Nat.{_-_}
 use mathlib.Core.Path.{ap}
 use borrow.Author.Needs.{needs}

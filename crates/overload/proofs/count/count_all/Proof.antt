@@ -1,5 +1,6 @@
 -- `count_all` meets its contract. The invariant: the first k places hold the numbers of tasks 0 to k - 1 (`Filled`).
--- The measure is the number of places left. Assumes nothing.
+-- The measure is the number of places left.
+-- Assumes nothing.
 use Prim.Native.Nat.{_-_}
 use mathlib.Core.Path.{refl}
 use borrow.Author.Needs.{needs}

@@ -1,5 +1,6 @@
 -- `count_by` meets its contract. The invariant: the requests tried so far are counted up to the last that is due
--- (`Counting`). The measure is the time left, which every P lessens. Assumes nothing.
+-- (`Counting`). The measure is the time left, which every P lessens.
+-- Assumes nothing.
 use borrow.Author.Needs.{needs}
 use native.Mathlib.Omega.{arith}
 use Rattle.table.specs.TableOf.{table-of}

@@ -1,5 +1,6 @@
 -- `many_of` meets its contract: a task of the table has the requests from its start on, and past the last task there
--- are none. Assumes nothing.
+-- are none.
+-- Assumes nothing.
 use borrow.Author.Needs.{needs}
 use Rattle.overload.proofs.ManyLaws.{asked-frame, many-inside, many-past}
 use Rattle.overload.proofs.count.many_of.Statement.{statement}

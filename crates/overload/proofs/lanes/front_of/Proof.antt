@@ -1,5 +1,6 @@
 -- `front_of` meets its contract. The invariant: the best of the tasks below k is known (`Tried`).
--- The measure is the number of tasks left. Assumes nothing.
+-- The measure is the number of tasks left.
+-- Assumes nothing.
 use Prim.Native.Nat.{_-_}
 use borrow.Author.Needs.{needs}
 use Rattle.overload.proofs.FrontLaws.{Tried, tried-start, tried-low, tried-turn, tried-end}

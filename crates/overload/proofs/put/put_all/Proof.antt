@@ -1,5 +1,6 @@
 -- `put_all` meets its contract. The invariant: the first i requests of the weave are written, and the lanes stand
--- before request i (`Putting`). The measure is the number of requests left. Assumes nothing.
+-- before request i (`Putting`). The measure is the number of requests left.
+-- Assumes nothing.
 use Prim.Native.Nat.{_-_}
 use borrow.Author.Needs.{needs}
 use Rattle.overload.specs.Lanes.{runs-of}

@@ -1,5 +1,6 @@
 -- `count_from` meets its contract. The invariant: the sum so far and what is left to count give the whole (`Counting`).
--- The measure is the time left, which every P lessens. Assumes nothing.
+-- The measure is the time left, which every P lessens.
+-- Assumes nothing.
 use borrow.Author.Needs.{needs}
 use native.Mathlib.Omega.{arith}
 use Rattle.table.specs.TableOf.{task-of}

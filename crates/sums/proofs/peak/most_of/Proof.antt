@@ -1,5 +1,6 @@
 -- `most_of` meets its contract. The invariant: the peak is that of the starts tried so far (`Trying`).
--- The measure is the number of starts left. Assumes nothing.
+-- The measure is the number of starts left.
+-- Assumes nothing.
 use Prim.Native.Nat.{_-_}
 use borrow.Author.Needs.{needs}
 use native.Mathlib.Omega.{arith}

@@ -1,5 +1,6 @@
 -- `judge_to` meets its contract. The invariant: what is left to try gives the verdict, and the least margin so far
--- (`Walking`). The measure is the number of t left. Assumes nothing.
+-- (`Walking`). The measure is the number of t left.
+-- Assumes nothing.
 use Prim.Native.Nat.{_+_, _-_}
 use mathlib.Core.Path.{_∙_, ap}
 use native.Mathlib.Omega.{arith}

@@ -1,5 +1,6 @@
 -- `close_by` meets its contract. The invariant: the windows from w on give what all of them give (`Seeking`).
--- The measure is the number of windows left. Assumes nothing.
+-- The measure is the number of windows left.
+-- Assumes nothing.
 use Prim.Native.Nat.{_+_, _-_}
 use mathlib.Core.Path.{ap}
 use native.Mathlib.Omega.{arith}

@@ -1,5 +1,6 @@
 -- `run` meets its contract. The invariant: the ticks that are left give the whole run (`Ticking`).
--- The measure is the number of ticks left. Assumes nothing.
+-- The measure is the number of ticks left.
+-- Assumes nothing.
 use Prim.Native.Nat.{suc, _-_}
 use borrow.Author.Needs.{needs}
 use Rattle.model.specs.Replay.{last-tick}

@@ -5,6 +5,7 @@ pub mod ListLaws
 pub mod WritingLaws
 pub mod WritingExact
 pub mod WritingFits
+pub mod WritingLeft
 pub mod ListExact
 pub mod ListExample
 pub mod OverloadReplay

@@ -124,7 +124,7 @@ module _ (s buffer : List ℕ) (place : ℕ) (bytes : Bytes s) where
         | inl short ↦ bad-told (refuses-12 (record { t = t; overloaded = over; short = short }))
         | inr room ↦
             rw (over-written t over room)
-            (record { t = t; overloaded = over; shows = over-shows s bytes over; room = room })
+            (record { t = t; overloaded = over; is = refl; shows = over-shows s bytes over; room = room })
       ]
 
   judged-told : WellFormed s → (v : Verdict) → Means horizon (table-of s) v

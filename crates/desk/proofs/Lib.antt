@@ -1,5 +1,6 @@
 pub mod AskLaws
 pub mod SameLaws
+pub mod SameSaid
 pub mod NamedLaws
 pub mod ListLaws
 pub mod WritingLaws

@@ -34,12 +34,13 @@ use Rattle.requests.specs.Entry.{entry-of, bytes-to}
 use Rattle.requests.specs.Reader.{check-of}
 use Rattle.bench.specs.Rule.{first-late, first-left, next-in, tick-of, run-of}
 use Rattle.bench.specs.Loaded.{slots-of, loaded, run-whole, end-of}
-use Rattle.overload.specs.Place.{placed, buffer-after}
+use Rattle.overload.specs.Place.{placed}
 use Rattle.desk.specs.Questions.{on-table, demand-asked, verdict-asked, replay-asked}
 use Rattle.desk.specs.Writing.{on-overload, list-at, overload-asked}
 use Rattle.desk.specs.Tables.{A, B, B-list, K7-task, four, twenty}
-use Rattle.desk.specs.Named.{Question, demand-of, verdict-on, replay-with, overload-into, Said, said, Row, named}
-use Rattle.desk.proofs.SameLaws.{same-int, same-list, same-verdict, same-replay, same-answer, same-left, same-said, same-said-is}
+use Rattle.desk.specs.Named.{Question, demand-of, verdict-on, replay-with, overload-into, left-by, Said, said, Row, named}
+use Rattle.desk.proofs.SameLaws.{same-int, same-list, same-verdict, same-replay, same-answer, same-written}
+use Rattle.desk.proofs.SameSaid.{same-left, same-said, same-said-is}
 
 -- the overload list, where the walk gives the verdict
 quick-list : List ℕ → List ℕ → ℕ → Answer (List ℕ)
@@ -51,9 +52,7 @@ quick : List ℕ → (q : Question) → Said q
 quick s (demand-of task t) = demand-asked s task t
 quick s verdict-on = on-table s (λ table. answered (walk table horizon 1))
 quick s (replay-with list) = replay-asked s list
-quick s (overload-into buffer place) =
-    let list = quick-list s buffer place in
-    record { wrote = list; buffer = buffer-after buffer place list }
+quick s (overload-into buffer place) = left-by buffer place (quick-list s buffer place)
 
 is-byte : ℕ → Bool
 is-byte x = ltb x 256
@@ -83,7 +82,7 @@ module _ (s : List ℕ) (bytes : T (every is-byte s)) where
   quick-is verdict-on = walked (λ table v. answered v)
   quick-is (replay-with list) = refl
   quick-is (overload-into buffer place) =
-      ap (λ (list : Answer (List ℕ)). record { wrote = list; buffer = buffer-after buffer place list })
+      ap (left-by buffer place)
       (walked (λ table v. on-overload v (λ t. placed buffer place (list-at table t))))
 
 by-walk : Row → Bool
@@ -106,8 +105,8 @@ unfolding named A B right by-walk quick is-byte every same-said same-answer same
     least-from first-least
     B-list same-replay replay-asked check-of entry-of last-arrival last-tick end-of run-whole run-of
     loaded slots-of tick-of first-late first-left next-in pick sooner
-    K7-task four twenty same-left quick-list placed overload-list weave next-at taken-by foremost requests-by up-to-last
-    bytes-to
+    K7-task four twenty same-written same-left quick-list placed overload-list weave next-at taken-by foremost
+    requests-by up-to-last bytes-to
 all-right = tt
 
 -- K1 to K7, and the list of four requests
@@ -115,7 +114,11 @@ pub named-right : (i : ℕ) → i < length named → (other : Row)
     → said (getD named i other .bytes) (getD named i other .question) ≡ getD named i other .says
 named-right i below other = right-is (getD named i other) (every-at right named other all-right i below)
 
--- ---- K5 by itself: B's bytes are bytes, and its list is answered so
+-- what stands past the end of the table, for those who cite one of its rows
+pub no-row : Row
+no-row = record { bytes = B; question = demand-of 0 0; says = answered 0 }
+
+-- ---- K5 by itself, row 14: B's bytes are bytes, and its list is answered so
 
 pub B-bytes : Bytes B
 unfolding A B is-byte every
@@ -126,4 +129,4 @@ B-bytes i = record { fits = bytes-are B all i }
 
 pub K5 : replay-asked B B-list ≡ answered (missed 2 1)
 unfolding named
-K5 = named-right 14 (lit< tt) (record { bytes = B; question = demand-of 0 0; says = answered 0 })
+K5 = named-right 14 (lit< tt) no-row

@@ -10,7 +10,8 @@ use Rattle.laws.proofs.Every.{both-left, both-right}
 use Rattle.model.specs.Verdict.{Verdict, overloaded, fits, undecided}
 use Rattle.model.specs.Replay.{Replayed, missed, all-met}
 use Rattle.model.specs.Answer.{Answer, answered, refused}
-use Rattle.desk.specs.Named.{Question, demand-of, verdict-on, replay-with, overload-into, Leaves, Said}
+use Rattle.overload.specs.declared.write.Written.{Written}
+use Rattle.overload.specs.declared.write.Written.the-variants.{Bytes, Refused}
 
 unfoldable pub same-int : ℤ → ℤ → Bool
 same-int (pos a) (pos b) = eqb a b
@@ -31,7 +32,7 @@ same-list [] (y ∷ m) = false
 same-list (x ∷ l) [] = false
 same-list (x ∷ l) (y ∷ m) = eqb x y && same-list l m
 
-same-list-is : (l m : List ℕ) → T (same-list l m) → l ≡ m
+pub same-list-is : (l m : List ℕ) → T (same-list l m) → l ≡ m
 unfolding same-list
 same-list-is [] [] h = refl
 same-list-is [] (y ∷ m) h = absurd h
@@ -51,7 +52,7 @@ same-verdict (fits w m t) undecided = false
 same-verdict undecided (overloaded u n k) = false
 same-verdict undecided (fits v n u) = false
 
-same-verdict-is : (a b : Verdict) → T (same-verdict a b) → a ≡ b
+pub same-verdict-is : (a b : Verdict) → T (same-verdict a b) → a ≡ b
 unfolding same-verdict
 same-verdict-is (overloaded t m l) (overloaded u n k) h =
     let rest = both-right (eqb t u) (same-int m n && same-list l k) h in
@@ -79,7 +80,7 @@ same-replay (all-met t) (all-met u) = eqb t u
 same-replay (missed t i) (all-met u) = false
 same-replay (all-met t) (missed u j) = false
 
-same-replay-is : (a b : Replayed) → T (same-replay a b) → a ≡ b
+pub same-replay-is : (a b : Replayed) → T (same-replay a b) → a ≡ b
 unfolding same-replay
 same-replay-is (missed t i) (missed u j) h =
     ap₂ missed (eqb→eq t u (both-left (eqb t u) (eqb i j) h)) (eqb→eq i j (both-right (eqb t u) (eqb i j) h))
@@ -93,7 +94,7 @@ same-answer same (answered a) (refused n i) = false
 same-answer same (refused m j) (answered b) = false
 same-answer same (refused m j) (refused n i) = eqb m n && eqb j i
 
-same-answer-is : {A : Type 0} (same : A → A → Bool) → ((a b : A) → T (same a b) → a ≡ b) → (x y : Answer A)
+pub same-answer-is : {A : Type 0} (same : A → A → Bool) → ((a b : A) → T (same a b) → a ≡ b) → (x y : Answer A)
     → T (same-answer same x y) → x ≡ y
 unfolding same-answer
 same-answer-is same is (answered a) (answered b) h = ap answered (is a b h)
@@ -102,32 +103,20 @@ same-answer-is same is (refused m j) (answered b) h = absurd h
 same-answer-is same is (refused m j) (refused n i) h =
     ap₂ refused (eqb→eq m n (both-left (eqb m n) (eqb j i) h)) (eqb→eq j i (both-right (eqb m n) (eqb j i) h))
 
-unfoldable pub same-left : Leaves → Leaves → Bool
-same-left a b = same-answer same-list (a .wrote) (b .wrote) && same-list (a .buffer) (b .buffer)
+unfoldable pub same-written : Written → Written → Bool
+same-written (Bytes m) (Bytes n) = eqb m n
+same-written (Bytes m) (Refused y) = false
+same-written (Refused x) (Bytes n) = false
+same-written (Refused x) (Refused y) = eqb (x .number) (y .number) && eqb (x .index) (y .index)
 
-same-left-is : (a b : Leaves) → T (same-left a b) → a ≡ b
-unfolding same-left
-same-left-is a b h = rw (wrote-is, buffer-is)
-  where
-    wrote-is : a .wrote ≡ b .wrote
-    wrote-is =
-        same-answer-is same-list same-list-is (a .wrote) (b .wrote)
-        (both-left (same-answer same-list (a .wrote) (b .wrote)) (same-list (a .buffer) (b .buffer)) h)
-
-    buffer-is : a .buffer ≡ b .buffer
-    buffer-is =
-        same-list-is (a .buffer) (b .buffer)
-        (both-right (same-answer same-list (a .wrote) (b .wrote)) (same-list (a .buffer) (b .buffer)) h)
-
-unfoldable pub same-said : (q : Question) → Said q → Said q → Bool
-same-said (demand-of task t) = same-answer eqb
-same-said verdict-on = same-answer same-verdict
-same-said (replay-with list) = same-answer same-replay
-same-said (overload-into buffer place) = same-left
-
-pub same-said-is : (q : Question) (x y : Said q) → T (same-said q x y) → x ≡ y
-unfolding same-said
-same-said-is (demand-of task t) = same-answer-is eqb eqb→eq
-same-said-is verdict-on = same-answer-is same-verdict same-verdict-is
-same-said-is (replay-with list) = same-answer-is same-replay same-replay-is
-same-said-is (overload-into buffer place) = same-left-is
+pub same-written-is : (a b : Written) → T (same-written a b) → a ≡ b
+unfolding same-written
+same-written-is (Bytes m) (Bytes n) h = ap Bytes (eqb→eq m n h)
+same-written-is (Bytes m) (Refused y) h = absurd h
+same-written-is (Refused x) (Bytes n) h = absurd h
+same-written-is (Refused x) (Refused y) h =
+    let numbers = eqb (x .number) (y .number) in
+    let indices = eqb (x .index) (y .index) in
+    let number-is : x .number ≡ y .number = eqb→eq _ _ (both-left numbers indices h) in
+    let index-is : x .index ≡ y .index = eqb→eq _ _ (both-right numbers indices h) in
+    rw (number-is, index-is)

@@ -53,9 +53,6 @@ module _ (buffer : List ℕ) (place : ℕ) where
   count-fits (refused number index) fitting is = let apart : _≡_ {A = ℕ} 0 1 = cc in absurd (omega arith)
 
 module _ (s buffer : List ℕ) (place : ℕ) where
-  pub written-fits : {list : List ℕ} → overload-asked s buffer place ≡ answered list → length list ≤ length buffer
-  written-fits is = rw is at (asked-fits buffer place s)
-
   pub wrote-fits : {r : Written} {after : List ℕ} {n : ℕ} → Wrote buffer place (overload-asked s buffer place) r after
       → r ≡ written.Bytes n → n ≤ length buffer
   wrote-fits wrote is =

@@ -1,5 +1,5 @@
--- What the caller of the writer finds in its buffer: the list from the place on, and every other byte as it was; after a
--- refusal, the buffer as it was.
+-- What the caller of the writer finds in its buffer: the list from the place on, and every other byte as it was; or,
+-- after a refusal, the buffer as it was.
 -- Assumes nothing.
 use mathlib.Core.Path.{_≡_, refl, sym, subst, _∙_}
 use mathlib.Core.List.{List, _++_}

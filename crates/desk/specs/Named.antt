@@ -7,9 +7,12 @@ use lib.ListN.{replicate}
 use Rattle.model.specs.Verdict.{Verdict, overloaded, fits}
 use Rattle.model.specs.Replay.{Replayed, missed}
 use Rattle.model.specs.Answer.{Answer, answered, refused}
-use Rattle.overload.specs.Place.{buffer-after}
+use Rattle.overload.specs.declared.write.Written.{Written}
+use Rattle.overload.specs.declared.write.Written.the-variants.{Bytes, Refused}
+use Rattle.overload.specs.Place.{written-of, buffer-after}
 use Rattle.desk.specs.Questions.{demand-asked, verdict-asked, replay-asked}
 use Rattle.desk.specs.Writing.{overload-asked}
+use Rattle.desk.specs.Written.{refusal}
 use Rattle.desk.specs.Tables.{sporadic, A, B, B-list, K7-task, four, twenty}
 
 -- ---- what is asked, and what is said
@@ -20,10 +23,15 @@ pub data Question : Type 0 where
   replay-with : (list : List ℕ) → Question
   overload-into : (buffer : List ℕ) (place : ℕ) → Question
 
--- the bytes that a writer was to write, or its refusal; and the buffer as it leaves it
+-- a writer's answer; the bytes that it was to write, or its refusal; and the buffer as it leaves it
 pub record Leaves : Type 0 where
+  pub answer : Written
   pub wrote : Answer (List ℕ)
   pub buffer : List ℕ
+
+abbrev pub left-by : List ℕ → ℕ → Answer (List ℕ) → Leaves
+left-by buffer place list =
+    record { answer = written-of list; wrote = list; buffer = buffer-after buffer place list }
 
 -- the answers that a question may get
 abbrev pub Said : Question → Type 0
@@ -37,9 +45,7 @@ abbrev pub said : List ℕ → (q : Question) → Said q
 said s (demand-of task t) = demand-asked s task t
 said s verdict-on = verdict-asked s
 said s (replay-with list) = replay-asked s list
-said s (overload-into buffer place) =
-    let list = overload-asked s buffer place in
-    record { wrote = list; buffer = buffer-after buffer place list }
+said s (overload-into buffer place) = left-by buffer place (overload-asked s buffer place)
 
 pub record Row : Type 0 where
   pub bytes : List ℕ
@@ -54,9 +60,13 @@ of-A t n = record { bytes = A; question = demand-of 0 t; says = answered n }
 abbrev judged : List ℕ → Verdict → Row
 judged s v = record { bytes = s; question = verdict-on; says = answered v }
 
-abbrev writes : List ℕ → List ℕ → ℕ → Answer (List ℕ) → List ℕ → Row
-writes s buffer place list after =
-    record { bytes = s; question = overload-into buffer place; says = record { wrote = list; buffer = after } }
+abbrev writes : List ℕ → List ℕ → ℕ → Written → Answer (List ℕ) → List ℕ → Row
+writes s buffer place answer list after =
+    record {
+      bytes = s;
+      question = overload-into buffer place;
+      says = record { answer = answer; wrote = list; buffer = after };
+    }
 
 unfoldable pub named : List Row
 named =
@@ -68,10 +78,10 @@ named =
     ∷ judged (A ++ sporadic 1 1 4 12) (fits 10 (pos 0) 2)
     -- K4 B: overloaded at 2, margin -1, starts 1, 0, then zeros; whole list, 16 bytes
     ∷ judged B (overloaded 2 (negsuc 0) (1 ∷ replicate 15 0))
-    ∷ writes B (replicate 16 255) 0 (answered B-list) B-list
+    ∷ writes B (replicate 16 255) 0 (Bytes 16) (answered B-list) B-list
     -- "In a 20-byte buffer from place 2, bytes 0, 1, 18, 19 stay; from place 5, refusal 12."
-    ∷ writes B twenty 2 (answered B-list) ((100 ∷ 101 ∷ B-list) ++ 118 ∷ 119 ∷ [])
-    ∷ writes B twenty 5 (refused 12 0) twenty
+    ∷ writes B twenty 2 (Bytes 16) (answered B-list) ((100 ∷ 101 ∷ B-list) ++ 118 ∷ 119 ∷ [])
+    ∷ writes B twenty 5 (Refused (refusal 12 0)) (refused 12 0) twenty
     -- K5 B's list replayed: miss at tick 2, record 1
     ∷ record { bytes = B; question = replay-with B-list; says = answered (missed 2 1) }
     -- K6 (1,1,1) fits: window 1, margin 0 at 1; two of them: overloaded at 1, margin -1
@@ -81,5 +91,5 @@ named =
     ∷ record { bytes = K7-task; question = demand-of 0 5; says = answered 4 }
     -- K7's task with (2,5,10) as task 1: overloaded at 5, margin -1, starts all 0; the list has four requests
     ∷ judged (K7-task ++ sporadic 1 2 5 10) (overloaded 5 (negsuc 0) (replicate 16 0))
-    ∷ writes (K7-task ++ sporadic 1 2 5 10) (replicate 32 255) 0 (answered four) four
+    ∷ writes (K7-task ++ sporadic 1 2 5 10) (replicate 32 255) 0 (Bytes 32) (answered four) four
     ∷ []

@@ -1,0 +1,38 @@
+-- The test for what a writer leaves, and so for whatever a question gets: by the tests of its parts.
+-- Assumes nothing.
+use mathlib.Core.Bool.{Bool, _&&_}
+use mathlib.Core.Path.{_≡_}
+use lib.Dec.{T, eqb, eqb→eq}
+use Rattle.laws.proofs.Every.{both-left, both-right}
+use Rattle.desk.specs.Named.{Question, demand-of, verdict-on, replay-with, overload-into, Leaves, Said}
+use Rattle.desk.proofs.SameLaws.{same-list, same-list-is, same-verdict, same-verdict-is, same-replay, same-replay-is, same-answer, same-answer-is, same-written, same-written-is}
+
+unfoldable pub same-left : Leaves → Leaves → Bool
+same-left a b =
+    same-written (a .answer) (b .answer)
+    && (same-answer same-list (a .wrote) (b .wrote) && same-list (a .buffer) (b .buffer))
+
+same-left-is : (a b : Leaves) → T (same-left a b) → a ≡ b
+unfolding same-left
+same-left-is a b h =
+    let answers = same-written (a .answer) (b .answer) in
+    let lists = same-answer same-list (a .wrote) (b .wrote) in
+    let buffers = same-list (a .buffer) (b .buffer) in
+    let rest = both-right answers (lists && buffers) h in
+    let answer-is : a .answer ≡ b .answer = same-written-is _ _ (both-left answers (lists && buffers) h) in
+    let wrote-is : a .wrote ≡ b .wrote = same-answer-is same-list same-list-is _ _ (both-left lists buffers rest) in
+    let buffer-is : a .buffer ≡ b .buffer = same-list-is _ _ (both-right lists buffers rest) in
+    rw (answer-is, wrote-is, buffer-is)
+
+unfoldable pub same-said : (q : Question) → Said q → Said q → Bool
+same-said (demand-of task t) = same-answer eqb
+same-said verdict-on = same-answer same-verdict
+same-said (replay-with list) = same-answer same-replay
+same-said (overload-into buffer place) = same-left
+
+pub same-said-is : (q : Question) (x y : Said q) → T (same-said q x y) → x ≡ y
+unfolding same-said
+same-said-is (demand-of task t) = same-answer-is eqb eqb→eq
+same-said-is verdict-on = same-answer-is same-verdict same-verdict-is
+same-said-is (replay-with list) = same-answer-is same-replay same-replay-is
+same-said-is (overload-into buffer place) = same-left-is

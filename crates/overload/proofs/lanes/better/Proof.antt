@@ -6,15 +6,15 @@ use borrow.Author.Needs.{needs}
 use Rattle.overload.proofs.lanes.better.Statement.{statement}
 use Rattle.overload.proofs.lanes.better.Tie as tie
 
-returns : tie.Need-returns
-returns c =
-    let args = c .before .before .before .args in
-    ap (λ (test : Bool). cond test (args .k) (args .best)) (sym (c .if1 .taken))
-
 returns-2 : tie.Need-returns-2
 returns-2 c =
     let args = c .before .before .before .args in
     ap (λ (test : Bool). cond test (args .k) (args .best)) (sym (c .if1 .left))
+
+returns : tie.Need-returns
+returns c =
+    let args = c .before .before .before .args in
+    ap (λ (test : Bool). cond test (args .k) (args .best)) (sym (c .if1 .taken))
 
 pub better-spec : {M : Type 1} → statement M
 better-spec =

@@ -40,11 +40,6 @@ pub record Gathered (s : List ℕ) (plan : Plan) (first : List ℕ) (t : ℕ) (m
   pub total : n ≡ sum (plan .tasks) (λ k. getD many k 0)
 
 -- from what was asked of the writer and what the parts that it called ensure
-pub gather : {s : List ℕ} {plan : Plan} {first : List ℕ} {t : ℕ} {many : List ℕ} {n : ℕ} → Asked s plan first t →
-    Bytes s → many ≡ counts (table-of s) t → n ≡ sum (plan .tasks) (λ k. getD many k 0) →
-    Gathered s plan first t many n
-gather asked bytes many-are total = record { asked = asked; bytes = bytes; many-are = many-are; total = total }
-
 module _ {s : List ℕ} {plan : Plan} {first : List ℕ} {t : ℕ} {many : List ℕ} {n : ℕ}
     (gathered : Gathered s plan first t many n) where
   good : ProperTable (table-of s)

@@ -5,7 +5,7 @@ use native.Mathlib.Omega.{arith}
 use borrow.Author.Needs.{needs}
 use Rattle.table.proofs.ReadyLaws.{ready-tasks, ready-few}
 use Rattle.overload.proofs.PlaceLaws.{wrote-past}
-use Rattle.overload.proofs.GatheredLaws.{gather, gathered-puts, list-short, list-whole}
+use Rattle.overload.proofs.GatheredLaws.{Gathered, gathered-puts, list-short, list-whole}
 use Rattle.overload.proofs.write.write_list.Statement.{statement}
 use Rattle.overload.proofs.write.write_list.Tie as tie
 
@@ -16,32 +16,37 @@ total-of-requires c κs =
 returns : tie.Need-returns
 returns c = wrote-past _ _ _ (search needs)
 
+-- what is known once all is counted
+gathered : (c : tie.After-total-of)
+    → let known = c .before .before .before in
+    let args = known .before .args in
+    Gathered (args .s .now) (args .plan) (args .starts) (args .t)
+    (c .before .count-all .result) (c .total-of .result)
+gathered c =
+    let known = c .before .before .before in
+    record {
+      asked = known .before .pre;
+      bytes = known .shared-slice-known .given;
+      many-are = c .before .count-all .ensures;
+      total = c .total-of .ensures .is;
+    }
+
 returns-2 : tie.Need-returns-2
-returns-2 c =
-    let at = c .before .before in
-    let start = at .before .before .before in
-    let many = at .before .count-all .ensures in
-    let gathered = gather (start .before .pre) (start .shared-slice-known .given) many (at .total-of .ensures .is) in
-    list-short gathered _ _ (search needs) (search needs)
+returns-2 c = list-short (gathered (c .before .before)) _ _ (search needs) (search needs)
 
 put-all-requires : tie.Need-put-all-requires
 put-all-requires c κs =
-    let at = c .before .before .before in
-    let start = at .before .before .before in
-    let many = at .before .count-all .ensures in
-    let gathered = gather (start .before .pre) (start .shared-slice-known .given) many (at .total-of .ensures .is) in
-    let args = start .before .args in
-    (start .before .pre .ready, gathered-puts gathered (args .buffer .now) (args .place) (search needs) (search needs))
+    let counted = c .before .before .before in
+    let known = counted .before .before .before in
+    let args = known .before .args in
+    (search needs, gathered-puts (gathered counted) (args .buffer .now) (args .place) (search needs) (search needs))
 
 returns-3 : tie.Need-returns-3
 returns-3 c =
     let put = c .before .before in
     let lent = put .before in
-    let at = lent .before .before .before in
-    let start = at .before .before .before in
-    let many = at .before .count-all .ensures in
-    let gathered = gather (start .before .pre) (start .shared-slice-known .given) many (at .total-of .ensures .is) in
-    list-whole gathered _ _ (search needs) _ (search needs) (put .put-all .ensures)
+    let counted = lent .before .before .before in
+    list-whole (gathered counted) _ _ (search needs) _ (search needs) (put .put-all .ensures)
 
 pub write-list-spec : {M : Type 1} → statement M
 write-list-spec =

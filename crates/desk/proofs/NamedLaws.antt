@@ -36,7 +36,7 @@ use Rattle.bench.specs.Rule.{first-late, first-left, next-in, tick-of, run-of}
 use Rattle.bench.specs.Loaded.{slots-of, loaded, run-whole, end-of}
 use Rattle.overload.specs.Place.{placed}
 use Rattle.desk.specs.Questions.{on-table, demand-asked, verdict-asked, replay-asked}
-use Rattle.desk.specs.Writing.{on-overload, list-at, overload-asked}
+use Rattle.desk.specs.Overload.{on-overload, list-at, overload-asked}
 use Rattle.desk.specs.Tables.{A, B, B-list, K7-task, four, twenty}
 use Rattle.desk.specs.Named.{Question, demand-of, verdict-on, replay-with, overload-into, left-by, Said, said, Row, named}
 use Rattle.desk.proofs.SameLaws.{same-int, same-list, same-verdict, same-replay, same-answer, same-written}
@@ -118,14 +118,18 @@ named-right i below other = right-is (getD named i other) (every-at right named 
 pub no-row : Row
 no-row = record { bytes = B; question = demand-of 0 0; says = answered 0 }
 
--- ---- K5 by itself, row 14: B's bytes are bytes, and its list is answered so
+-- ---- A's and B's bytes are bytes; and K5 by itself, row 14
+
+are-bytes : (s : List ℕ) → T (every is-byte s) → Bytes s
+are-bytes s all i = record { fits = bytes-are s all i }
+
+pub A-bytes : Bytes A
+unfolding A is-byte every
+A-bytes = are-bytes A tt
 
 pub B-bytes : Bytes B
 unfolding A B is-byte every
-B-bytes i = record { fits = bytes-are B all i }
-  where
-    all : T (every is-byte B)
-    all = tt
+B-bytes = are-bytes B tt
 
 pub K5 : replay-asked B B-list ≡ answered (missed 2 1)
 unfolding named

@@ -15,7 +15,7 @@ use Rattle.requests.specs.Entry.{list-of}
 use Rattle.requests.specs.Reader.{most-requests}
 use Rattle.requests.proofs.LawfulLaws.{lawful-accepted, long-refused}
 use Rattle.desk.specs.Questions.{on-list}
-use Rattle.desk.specs.Writes.{Writes}
+use Rattle.desk.specs.OverloadMeaning.{Writes}
 use Rattle.desk.proofs.ListExact.{good-answered, bad-refused}
 
 module _ {s buffer : List ℕ} {place : ℕ} {list : List ℕ} (writes : Writes s buffer place list) {A : Type 0}

@@ -31,8 +31,8 @@ use Rattle.overload.specs.Shows.{Shows}
 use Rattle.overload.proofs.PlaceLaws.{placed-beyond, placed-within}
 use Rattle.overload.proofs.Shown.{list-shows}
 use Rattle.desk.specs.Questions.{verdict-asked}
-use Rattle.desk.specs.Writing.{on-overload, list-at, overload-asked}
-use Rattle.desk.specs.Writes.{Overloaded-at, Refused-with, table-bad, refuses-13, refuses-12, Told}
+use Rattle.desk.specs.Overload.{on-overload, list-at, overload-asked}
+use Rattle.desk.specs.OverloadMeaning.{Overloaded-at, Refused-with, table-bad, refuses-13, refuses-12, Told}
 
 -- ---- the verdict on bytes
 

@@ -1,24 +1,32 @@
--- A table and a buffer that meet what the laws about writing ask: B and its twenty bytes, and what the laws then say.
+-- Tables and a buffer that meet what the laws about writing ask: B and its twenty bytes, and A, which is not overloaded;
+-- and what the laws then say.
 -- Assumes nothing.
-use mathlib.Core.Path.{_≡_, sym, ap, subst}
+use mathlib.Core.Path.{_≡_, refl, sym, ap, subst}
 use mathlib.Core.List.{List, [], _∷_, _++_}
 use Prim.Native.Nat.{ℕ}
 use native.Mathlib.Omega.{arith}
 use lib.Dec.{lit<}
-use lib.IntN.{negsuc}
+use lib.IntN.{pos, negsuc}
 use lib.ListN.{replicate}
-use Rattle.model.specs.Verdict.{overloaded}
-use Rattle.model.specs.Answer.{answered}
-use Rattle.table.proofs.Exact.{good-read, refused-read}
+use Rattle.model.specs.Verdict.{horizon, overloaded, fits, verdict}
+use Rattle.model.specs.Meaning.{Means}
+use Rattle.model.specs.Answer.{answered, refused}
+use Rattle.model.proofs.VerdictLaws.{verdict-means}
+use Rattle.table.specs.declared.reader.Reading.{Reading}
+use Rattle.table.specs.declared.reader.Reading.the-variants as reading
+use Rattle.table.specs.Reader.{reading-of}
+use Rattle.table.specs.TableOf.{table-of}
+use Rattle.table.proofs.Exact.{read-good, good-read, refused-read}
+use Rattle.table.proofs.TaskLaws.{proper-table}
 use Rattle.overload.specs.Place.{Wrote}
 use Rattle.desk.specs.Questions.{verdict-asked}
-use Rattle.desk.specs.Writing.{overload-asked}
+use Rattle.desk.specs.Overload.{overload-asked}
 use Rattle.desk.specs.Written.{refusal}
-use Rattle.desk.specs.Writes.{Overloaded-at, No-room, Refused-with, table-bad, refuses-12, Writes, Holds-list, Untouched}
-use Rattle.desk.specs.Tables.{B, B-list, twenty}
+use Rattle.desk.specs.OverloadMeaning.{Overloaded-at, Not-overloaded, No-room, Refused-with, table-bad, refuses-13, refuses-12, Writes, Holds-list, Untouched}
+use Rattle.desk.specs.Tables.{A, B, B-list, twenty}
 use Rattle.desk.specs.Named.{overload-into, Leaves, said, named}
-use Rattle.desk.proofs.NamedLaws.{named-right, no-row, B-bytes}
-use Rattle.desk.proofs.WritingExact.{over-judged}
+use Rattle.desk.proofs.NamedLaws.{named-right, no-row, A-bytes, B-bytes}
+use Rattle.desk.proofs.WritingExact.{over-judged, bad-unwritten}
 use Rattle.desk.proofs.WritingLeft.{wrote-leaves}
 
 -- ---- K4, rows 10, 12 and 13: "overloaded at 2", "In a 20-byte buffer from place 2 ..; from place 5, refusal 12."
@@ -66,3 +74,24 @@ B-full = full-of (B-untouched .refusal)
         let apart : _≡_ {A = ℕ} 0 1 = cc (good-read B (B-overloaded .table-good), refused-read B 12 0 bad) in
         absurd (omega arith)
     full-of (refuses-12 full) = full
+
+-- ---- K2, row 8: "A fits", so that every question for its overload list is refused 13
+
+K2 : verdict-asked A ≡ answered (fits 8 (pos 0) 2)
+unfolding named
+K2 = named-right 8 (lit< tt) no-row
+
+pub A-calm : Not-overloaded A
+unfolding verdict-asked
+A-calm = which (reading-of A) refl
+  where
+    which : (r : Reading) → reading-of A ≡ r → Not-overloaded A
+    which (reading.Table shape) read =
+        let well = read-good A shape read in
+        let is : verdict horizon (table-of A) ≡ fits 8 (pos 0) 2 = cc (rw read at K2) in
+        let means = verdict-means (proper-table A (λ i. A-bytes i .fits) well) horizon in
+        record { table-good = well; calm = subst (Means horizon (table-of A)) is means .calm }
+    which (reading.Refused r) read = let apart : _≡_ {A = ℕ} 0 1 = cc (rw read at K2) in absurd (omega arith)
+
+pub A-refused : (buffer : List ℕ) (place : ℕ) → overload-asked A buffer place ≡ refused 13 0
+A-refused buffer place = bad-unwritten A buffer place A-bytes (refuses-13 A-calm)

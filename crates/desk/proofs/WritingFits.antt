@@ -20,7 +20,7 @@ use Rattle.overload.specs.declared.write.Written.the-variants as written
 use Rattle.overload.specs.Place.{placed, written-of, Wrote}
 use Rattle.overload.proofs.PlaceLaws.{placed-beyond, placed-within}
 use Rattle.desk.specs.Questions.{after-reading}
-use Rattle.desk.specs.Writing.{on-overload, list-at, overload-asked}
+use Rattle.desk.specs.Overload.{on-overload, list-at, overload-asked}
 
 -- what is answered is no longer than the buffer; of a refusal nothing is asked
 abbrev Fitting : List ℕ → Answer (List ℕ) → Type 0

@@ -27,7 +27,7 @@ use Rattle.verdict.proofs.judge.Verdict.{the-type}
 use Rattle.overload.specs.declared.write.Written.the-variants as written
 use Rattle.overload.specs.Counts.{Asked}
 use Rattle.overload.specs.Place.{placed, Wrote}
-use Rattle.desk.specs.Writing.{on-overload, list-at, overload-asked}
+use Rattle.desk.specs.Overload.{on-overload, list-at, overload-asked}
 
 -- a refusal is the answer, and the buffer stays
 pub writing-refused : (buffer : List ℕ) (place : ℕ) {r x : Refusal} {said : Answer (List ℕ)} → r ≡ x

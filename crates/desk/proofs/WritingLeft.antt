@@ -11,8 +11,8 @@ use Rattle.model.specs.Answer.{Answer, answered, refused}
 use Rattle.table.proofs.ReadyLaws.{Bytes}
 use Rattle.overload.specs.declared.write.Written.{Written}
 use Rattle.overload.specs.Place.{written-of, buffer-after, Wrote}
-use Rattle.desk.specs.Writing.{overload-asked}
-use Rattle.desk.specs.Writes.{Writes, Told, Leaves-behind}
+use Rattle.desk.specs.Overload.{overload-asked}
+use Rattle.desk.specs.OverloadMeaning.{Writes, Told, Leaves-behind}
 use Rattle.desk.proofs.WritingExact.{writing-told}
 
 -- ---- a list in a buffer that has room for it, and what is read out of it again

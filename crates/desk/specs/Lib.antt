@@ -1,7 +1,7 @@
 pub mod Questions
-pub mod Writing
+pub mod Overload
 pub mod Written
 pub mod Tables
 pub mod Named
 pub mod Refusals
-pub mod Writes
+pub mod OverloadMeaning

@@ -11,7 +11,7 @@ use Rattle.overload.specs.declared.write.Written.{Written}
 use Rattle.overload.specs.declared.write.Written.the-variants.{Bytes, Refused}
 use Rattle.overload.specs.Place.{written-of, buffer-after}
 use Rattle.desk.specs.Questions.{demand-asked, verdict-asked, replay-asked}
-use Rattle.desk.specs.Writing.{overload-asked}
+use Rattle.desk.specs.Overload.{overload-asked}
 use Rattle.desk.specs.Written.{refusal}
 use Rattle.desk.specs.Tables.{sporadic, A, B, B-list, K7-task, four, twenty}
 
@@ -29,6 +29,7 @@ pub record Leaves : Type 0 where
   pub wrote : Answer (List ℕ)
   pub buffer : List ℕ
 
+-- all three follow from what is to be written
 abbrev pub left-by : List ℕ → ℕ → Answer (List ℕ) → Leaves
 left-by buffer place list =
     record { answer = written-of list; wrote = list; buffer = buffer-after buffer place list }

@@ -19,7 +19,7 @@ ghost use Rattle.sums.specs.Sized.{most-by};
 ghost use Rattle.desk.specs.Questions.{one-task, demand-asked, work-asked, margin-asked, window-asked, verdict-asked};
 ghost use Rattle.desk.specs.Questions.{list-asked, replay-asked};
 ghost use Rattle.overload.specs.Place.{Wrote};
-ghost use Rattle.desk.specs.Writing.{overload-asked};
+ghost use Rattle.desk.specs.Overload.{overload-asked};
 ghost use Rattle.desk.specs.Written.{amount-of, spare-of, window-of, judgement-of, checked-of, ending-of, loading-of};
 
 pub enum Amount {

@@ -7,7 +7,7 @@ ghost use mathlib.Core.Path.{_≡_};
 ghost use Rattle.table.specs.Reader.{reading-of};
 ghost use Rattle.table.specs.declared.reader.Reading.the-variants.{Table};
 ghost use Rattle.overload.specs.Place.{Wrote};
-ghost use Rattle.desk.specs.Writing.{overload-asked};
+ghost use Rattle.desk.specs.Overload.{overload-asked};
 
 pub fn write_in<'a, 'b>(s: &'a [u8], shape: Shape, buffer: &'b mut [u8], place: usize) -> Written
     requires { ⌜ reading-of (now s) ≡ Table shape ⌝ }

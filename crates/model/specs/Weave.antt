@@ -35,6 +35,7 @@ module _ (table : Table) (runs : Runs) where
         → list .request i ≡ earliest (list .request i .task) (of-task list (list .request i .task) i)
     -- and all of them
     pub all : (k : ℕ) → k < table .tasks → of-task list k (list .count) ≡ runs .many k
+    -- "Sorted by arrival, then task number."
     pub sorted : Sorted list
 
   -- ---- the list: of the tasks' next requests, always the earliest, that of the lower task at equal arrivals

@@ -2,7 +2,7 @@
 -- Assumes nothing.
 use mathlib.Core.Path.{refl, sym, _∙_}
 use borrow.Author.Needs.{needs}
-use Rattle.desk.specs.Writing.{overload-asked}
+use Rattle.desk.specs.Overload.{overload-asked}
 use Rattle.desk.proofs.AskLaws.{passed-on}
 use Rattle.desk.proofs.WritingLaws.{writing-refused}
 use Rattle.desk.proofs.write_overload.Statement.{statement}

@@ -18,7 +18,7 @@ use Rattle.table.specs.Refusals as Table
 use Rattle.overload.specs.declared.write.Written.{Written}
 use Rattle.overload.specs.declared.write.Written.the-variants as written
 use Rattle.overload.specs.Shows.{Shows}
-use Rattle.desk.specs.Writing.{list-at}
+use Rattle.desk.specs.Overload.{list-at}
 
 -- the bytes are a table, and t is the least with a margin below zero
 pub record Overloaded-at (s : List ℕ) (t : ℕ) : Type 0 where

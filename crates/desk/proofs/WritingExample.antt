@@ -1,5 +1,5 @@
--- Tables and a buffer that meet what the laws about writing ask: B and its twenty bytes, and A, which is not overloaded;
--- and what the laws then say.
+-- Tables and a buffer that meet what the laws about writing ask: B and its twenty bytes, and A, which is not
+-- overloaded; and what the laws then say.
 -- Assumes nothing.
 use mathlib.Core.Path.{_≡_, refl, sym, ap, subst}
 use mathlib.Core.List.{List, [], _∷_, _++_}

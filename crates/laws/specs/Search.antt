@@ -1,9 +1,11 @@
--- The least number that passes a test, the greatest, and the first place of the least value.
+-- The least number that passes a test, the greatest, and the first place of the least value and of the greatest.
 -- Assumes nothing.
 use mathlib.Core.Bool.{Bool, true, false, cond}
 use Prim.Native.Nat.{ℕ, zero, suc}
+use lib.Dec.{eqb}
 use lib.IntN.{ℤ}
 use lib.Signed.{ltZ}
+use Rattle.laws.specs.Sums.{greatest}
 
 pub data Found : Type 0 where
   at : ℕ → Found
@@ -28,3 +30,7 @@ up-to-last test (suc n) = elim (test n) [ true ↦ suc n | false ↦ up-to-last 
 unfoldable pub first-least : (ℕ → ℤ) → ℕ → ℕ
 first-least f zero = 1
 first-least f (suc n) = cond (ltZ (f (suc n)) (f (first-least f n))) (suc n) (first-least f n)
+
+-- the first of 0, .., n - 1 at which f is greatest; 0 where n is 0
+abbrev pub first-greatest : (ℕ → ℕ) → ℕ → ℕ
+first-greatest f n = place-or 0 (least-from (λ i. eqb (f i) (greatest n f)) n 0)

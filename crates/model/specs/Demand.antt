@@ -1,10 +1,10 @@
 -- Demand, work and margin: document 01, "What the desk computes".
 -- Assumes nothing.
 use Prim.Native.Nat.{ℕ, zero, suc, _+_, _%_}
-use lib.Dec.{leb, eqb}
+use lib.Dec.{leb}
 use lib.IntN.{ℤ, subℕ}
 use Rattle.laws.specs.Sums.{sum, only, greatest}
-use Rattle.laws.specs.Search.{least-from, place-or}
+use Rattle.laws.specs.Search.{first-greatest}
 use Rattle.model.specs.Task.{Task, Table}
 
 -- "A task's frames come round in order": the n-th after frame s
@@ -32,7 +32,7 @@ most task reach t = greatest (task .count) (counted task reach t)
 
 -- the lowest frame number that gives it
 unfoldable pub lowest : Task → (ℕ → ℕ) → ℕ → ℕ
-lowest task reach t = place-or 0 (least-from (λ s. eqb (counted task reach t s) (most task reach t)) (task .count) 0)
+lowest task reach t = first-greatest (counted task reach t) (task .count)
 
 -- "Add E of every frame whose offset plus D is at most t. The demand is the greatest such sum over all s."
 abbrev pub demand : Task → ℕ → ℕ

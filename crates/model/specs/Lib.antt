@@ -11,3 +11,5 @@ pub mod Tick
 pub mod Replay
 pub mod Weave
 pub mod Overload
+pub mod Response
+pub mod ResponseMeaning

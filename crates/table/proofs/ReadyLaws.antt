@@ -12,7 +12,8 @@ use Rattle.model.specs.Task.{ProperTable}
 use Rattle.table.specs.Bytes.{size, record-of}
 use Rattle.table.specs.TableOf.{table-of, plan-of}
 use Rattle.table.specs.Reader.{most-records, reading-of}
-use Rattle.table.specs.Ready.{Ready, Frame-is, Frames}
+use Rattle.table.specs.Ready.{Ready, Stands-at, Frame-is, Frames}
+use Rattle.table.specs.declared.frame.Place.{Place}
 use Rattle.table.specs.declared.plan.Plan.{Plan}
 use Rattle.table.specs.declared.record.Record.{Record}
 use Rattle.table.specs.declared.reader.Shape.{Shape}
@@ -32,6 +33,12 @@ pub ready-read : (s : List ℕ) (shape : Shape) {plan : Plan} → reading-of s �
 ready-read s shape read made =
     let told = shaped s shape read in
     record { good = told .well; plan-is = rw (told .records-are, told .tasks-are) at made }
+
+-- how many frames the task of a place has
+pub place-frames : {s : List ℕ} {k : ℕ} {place : Place} → Stands-at s k place
+    → Frames (table-of s .task k) (place .frames)
+place-frames {s} stands =
+    record { is = rw (stands .task-is, task-count s _ _); some = stands .some; few = stands .few }
 
 module _ {s : List ℕ} {plan : Plan} (ready : Ready s plan) where
   all : Plans s plan
@@ -59,13 +66,16 @@ module _ {s : List ℕ} {plan : Plan} (ready : Ready s plan) where
     pub ready-count : table-of s .task k .count ≡ getD (plan .first) (k + 1) 0 - getD (plan .first) k 0
     ready-count = rw (ready-stands .task-is) (task-count s _ _)
 
-    pub ready-frames : {r : ℕ} → r ≡ getD (plan .first) (k + 1) 0 - getD (plan .first) k 0
-        → Frames (table-of s .task k) r
-    ready-frames is =
+    -- the place that the plan gives
+    pub ready-place : Stands-at s k
+        (record { first = getD (plan .first) k 0; frames = getD (plan .first) (k + 1) 0 - getD (plan .first) k 0 })
+    ready-place =
+        let stands = ready-stands in
         record {
-          is = omega (arith, ready-count);
-          some = omega (arith, ready-stands .some);
-          few = omega (arith, ready-stands .few);
+          task-is = stands .task-is;
+          inside = omega (arith, stands .inside, stands .ordered);
+          some = stands .some;
+          few = stands .few;
         }
 
   module _ {k i : ℕ} (has : Has-frame (table-of s) k i) where

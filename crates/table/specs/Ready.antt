@@ -2,11 +2,13 @@
 -- Assumes nothing.
 use mathlib.Core.Path.{_≡_}
 use mathlib.Core.List.{List}
-use Prim.Native.Nat.{ℕ, _≤_}
+use Prim.Native.Nat.{ℕ, _+_, _*_, _≤_}
+use lib.ListN.{length}
 use Rattle.model.specs.Task.{Task}
-use Rattle.table.specs.Bytes.{records}
-use Rattle.table.specs.TableOf.{table-of, plan-of}
+use Rattle.table.specs.Bytes.{size, records}
+use Rattle.table.specs.TableOf.{table-of, task-of, plan-of}
 use Rattle.table.specs.WellFormed.{WellFormed}
+use Rattle.table.specs.declared.frame.Place.{Place}
 use Rattle.table.specs.declared.plan.Plan.{Plan}
 use Rattle.table.specs.declared.record.Record.{Record}
 
@@ -14,6 +16,13 @@ use Rattle.table.specs.declared.record.Record.{Record}
 pub record Ready (s : List ℕ) (plan : Plan) : Type 0 where
   pub good : WellFormed s
   pub plan-is : plan ≡ plan-of s (records s) (table-of s .tasks)
+
+-- task k is the records of this place
+pub record Stands-at (s : List ℕ) (k : ℕ) (place : Place) : Type 0 where
+  pub task-is : table-of s .task k ≡ task-of s (place .first) (place .frames)
+  pub inside : (place .first + place .frames) * size ≤ length s
+  pub some : 1 ≤ place .frames
+  pub few : place .frames ≤ 16
 
 -- the number of frames, from which the next frame's number is found
 pub record Frames (task : Task) (r : ℕ) : Type 0 where

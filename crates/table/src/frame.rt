@@ -1,18 +1,38 @@
-// One task of a good table by its number: how many frames it has, and each frame's record.
+// One task of a good table by its number: where it stands, how many frames it has, and each frame's record.
 use crate::plan::Plan;
 use crate::record::Record;
 ghost use Prim.Native.Nat.{_<_};
 ghost use Rattle.model.specs.Request.{Has-frame};
 ghost use Rattle.table.specs.TableOf.{table-of};
-ghost use Rattle.table.specs.Ready.{Ready, Frame-is, Frames};
+ghost use Rattle.table.specs.Ready.{Ready, Frame-is, Frames, Stands-at};
+
+// Where a task stands: its first record, and its number of frames.
+pub struct Place {
+    pub first: usize,
+    pub frames: usize,
+}
+
+// The place of task k.
+pub fn place_of(s: &[u8], plan: Plan, k: usize) -> Place
+    requires { ⌜ Ready (now s) plan × (k < plan .tasks) ⌝ }
+    ensures { λ r. ⌜ Stands-at (now (s .entry)) k r ⌝ }
+{
+    let first = plan.first;
+    let from = first[k];
+    let frames = first[k + 1] - from;
+    Place {
+        first: from,
+        frames,
+    }
+}
 
 // The number of frames of task k.
 pub fn count_frames(s: &[u8], plan: Plan, k: usize) -> usize
     requires { ⌜ Ready (now s) plan × (k < plan .tasks) ⌝ }
     ensures { λ r. ⌜ Frames (table-of (now (s .entry)) .task k) r ⌝ }
 {
-    let first = plan.first;
-    first[k + 1] - first[k]
+    let place = place_of(s, plan, k);
+    place.frames
 }
 
 // Frame i of task k.

@@ -14,10 +14,7 @@ fn share_of(s: &[u8], plan: Plan, k: usize, w: u64) -> u64
 {
     let peak = sums::total::peak_of(s, plan, k, 1, false);
     let start = peak.start;
-    let first = plan.first;
-    let from = first[k];
-    let frames = first[k + 1] - from;
-    sums::cyclic::count_from(s, from, frames, start, w, false)
+    sums::total::count_of(s, plan, k, start, w, false)
 }
 
 // What the tasks above task k take of w ticks together.

@@ -1,0 +1,48 @@
+-- `first_above` meets its contract. The invariant: what is left to search gives the whole (`Seeking`).
+-- The measure is the number of records left.
+-- Assumes nothing.
+use Prim.Native.Nat.{_-_}
+use borrow.Author.Needs.{needs}
+use Rattle.laws.proofs.SearchLaws.{Seeking, seeking-start}
+use Rattle.response.specs.Deadlines.{above}
+use Rattle.response.proofs.DeadlineLaws.{above-hit, above-on, above-end}
+use Rattle.response.proofs.deadlines.first_above.Statement.{statement}
+use Rattle.response.proofs.deadlines.first_above.Tie as tie
+
+abbrev Inv-loop : tie.InvT-loop
+Inv-loop s n i₀ i = Seeking (above s) n 0 i
+
+abbrev μ-loop : tie.MeasureT-loop
+μ-loop s n i₀ i = n - i
+
+loop-holds : tie.Need-loop-holds Inv-loop μ-loop
+loop-holds c = seeking-start _ _ _
+
+-- D above P
+returns : tie.Need-returns Inv-loop μ-loop
+returns c =
+    let at-loop = c .before .before .before in
+    above-hit (at-loop .loop .inv) (search needs) (search needs) (c .if1 .taken)
+
+loop-again : tie.Need-loop-again Inv-loop μ-loop
+loop-again c =
+    let at-loop = c .before .before .before in
+    above-on (at-loop .loop .inv) (search needs) (search needs) (search needs)
+
+-- none
+returns-2 : tie.Need-returns-2 Inv-loop μ-loop
+returns-2 c = above-end (c .before .loop .inv) (search needs)
+
+pub first-above-spec : {M : Type 1} → statement M
+first-above-spec =
+    tie.close
+    (tie.spec
+    Inv-loop
+    μ-loop
+    loop-holds
+    (λ c κs. search needs)
+    returns
+    (λ c. search needs)
+    (λ c. search needs)
+    loop-again
+    returns-2)

@@ -26,3 +26,4 @@ pub mod WeaveWoven
 pub mod WovenOne
 pub mod WovenSame
 pub mod WeaveSame
+pub mod ValueLaws

@@ -27,3 +27,4 @@ pub mod WovenOne
 pub mod WovenSame
 pub mod WeaveSame
 pub mod ValueLaws
+pub mod ResponseLaws

@@ -12,7 +12,7 @@ use Rattle.table.specs.Bytes.{record-of}
 use Rattle.table.specs.declared.record.Record.{Record}
 use Rattle.response.specs.Deadlines.{above, first-above}
 
-module _ {s : List ℕ} {n i : ℕ} (seeking : Seeking (above s) n 0 i) where
+module _ (s : List ℕ) {n i : ℕ} (seeking : Seeking (above s) n 0 i) where
   pub above-hit : {x : Record} → i < n → x ≡ record-of s i → x .p < x .d → i ≡ place-or n (first-above n s)
   unfolding first-above
   above-hit {x} more read longer =

@@ -1,1 +1,3 @@
 pub mod DeadlineLaws
+pub mod ShareLaws
+pub mod RoundLaws

@@ -22,16 +22,16 @@ loop-holds c = seeking-start _ _ _
 returns : tie.Need-returns Inv-loop μ-loop
 returns c =
     let at-loop = c .before .before .before in
-    above-hit (at-loop .loop .inv) (search needs) (search needs) (c .if1 .taken)
+    above-hit _ (at-loop .loop .inv) (search needs) (search needs) (c .if1 .taken)
 
 loop-again : tie.Need-loop-again Inv-loop μ-loop
 loop-again c =
     let at-loop = c .before .before .before in
-    above-on (at-loop .loop .inv) (search needs) (search needs) (search needs)
+    above-on _ (at-loop .loop .inv) (search needs) (search needs) (search needs)
 
 -- none
 returns-2 : tie.Need-returns-2 Inv-loop μ-loop
-returns-2 c = above-end (c .before .loop .inv) (search needs)
+returns-2 c = above-end _ (c .before .loop .inv) (search needs)
 
 pub first-above-spec : {M : Type 1} → statement M
 first-above-spec =

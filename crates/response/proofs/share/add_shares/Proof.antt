@@ -21,6 +21,26 @@ abbrev μ-loop : tie.MeasureT-loop
 loop-holds : tie.Need-loop-holds Inv-loop μ-loop
 loop-holds c = adding-none _ _ _
 
+-- at most fifteen tasks stand above one of sixteen, and w is a deadline at most: far below 2 ^ 64
+add-sum : tie.Need-add-sum Inv-loop μ-loop
+add-sum c =
+    let at-loop = c .before .before in
+    let entry = at-loop .before .before in
+    let low = ready-low (entry .pre .0) (entry .args .k) (entry .pre .1) in
+    omega (arith, adding-room (at-loop .loop .inv) 15 (omega arith), c .share-of .ensures .at-most)
+
+loop-again : tie.Need-loop-again Inv-loop μ-loop
+loop-again c =
+    let at-loop = c .before .before in
+    let share = c .share-of .ensures in
+    adding-on (at-loop .loop .inv) (search needs) (share .is) (share .at-most)
+
+returns : tie.Need-returns Inv-loop μ-loop
+returns c =
+    let entry = c .before .before .before in
+    let low = ready-low (entry .pre .0) (entry .args .k) (entry .pre .1) in
+    shares-added (c .before .loop .inv) (omega arith) (search needs)
+
 pub add-shares-spec : {M : Type 1} → statement M
 add-shares-spec =
     tie.close
@@ -28,9 +48,9 @@ add-shares-spec =
     Inv-loop
     μ-loop
     loop-holds
-    ?
-    ?
-    ?
-    ?
-    ?
-    ?)
+    (λ c κs. search needs)
+    add-sum
+    (λ c. search needs)
+    (λ c. search needs)
+    loop-again
+    returns)

@@ -1,0 +1,39 @@
+-- The higher tasks' shares: one as the walk from the peak frame gives it, and all of them added in order.
+-- Assumes nothing.
+use mathlib.Core.Bool.{false}
+use mathlib.Core.Path.{_≡_, _∙_, ap}
+use Prim.Native.Nat.{ℕ, _*_, _≤_, _<_}
+use native.Mathlib.Omega.{arith}
+use Rattle.laws.proofs.Adding.{Adding, adding-room, adding-end}
+use Rattle.model.specs.Task.{Task, Table, Proper}
+use Rattle.model.specs.Demand.{counted}
+use Rattle.model.specs.Response.{peak-frame, share-of, higher-share}
+use Rattle.model.proofs.DemandLaws.{work-moves}
+use Rattle.model.proofs.ShareLaws.{peak-lowest}
+use Rattle.sums.specs.declared.peak.Peak.{Peak}
+use Rattle.sums.specs.Sized.{longest, Counted, Greatest}
+use Rattle.response.specs.Shares.{Share, Shares}
+
+-- ---- one task
+
+-- the start that brings the most work into one tick is the peak frame, and the sum from there is the share
+pub share-counted : {task : Task} → Proper task → {peak : Peak} → Greatest task false 1 peak → {w r : ℕ}
+    → Counted task false w (peak .start) r → Share task w r
+unfolding share-of
+share-counted {task} proper peak {w} sum =
+    record {
+      is = sum .is ∙ ap (counted task (λ i. 1) w) (peak .start-is ∙ peak-lowest (work-moves proper));
+      at-most = sum .at-most;
+    }
+
+-- ---- the higher tasks together
+
+abbrev pub shares : Table → ℕ → ℕ → ℕ
+shares table w j = share-of (table .task j) w
+
+-- they are added in order, and there are fifteen at the most
+pub shares-added : {table : Table} {k w so-far j : ℕ} → Adding (shares table w) (longest * w) k so-far j → k ≤ 15
+    → k ≤ j → Shares table k w so-far
+unfolding higher-share
+shares-added adding few done =
+    record { is = adding-end adding done; at-most = adding-room adding 15 (omega (arith, adding .within)) }

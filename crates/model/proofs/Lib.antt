@@ -27,4 +27,5 @@ pub mod WovenOne
 pub mod WovenSame
 pub mod WeaveSame
 pub mod ValueLaws
+pub mod SettleLaws
 pub mod ResponseLaws

@@ -1,69 +1,107 @@
--- Where the recurrence settles, over any share: the response says what the document says, and whatever says that is
--- the response.
+-- The response over any share says what the document says, and whatever says that is the response.
 -- Assumes nothing.
 use mathlib.Core.Bool.{true, false}
-use mathlib.Core.Path.{_≡_, sym, ap}
+use mathlib.Core.Path.{_≡_, refl, sym, _∙_, ap}
 use mathlib.Core.Logic.{inl, inr}
-use Prim.Native.Nat.{ℕ, suc, _≤_, _<_}
+use Prim.Native.Nat.{ℕ, zero, suc, _-_, _≤_, _<_}
 use native.Mathlib.Omega.{arith}
-use native.Mathlib.Decide.{ℕ-discrete}
-use borrow.Author.Tests.{lt-ltb, le-ltb}
-use Rattle.laws.specs.Search.{Found, at, least-from, place-or}
+use Rattle.laws.specs.Search.{Found, at, nowhere, least-from, place-or}
 use Rattle.laws.proofs.Cases.{lt-or-le}
-use Rattle.laws.proofs.Tests.{Catches, kept, broken, catches-lt, catches-eq, catches-or}
-use Rattle.model.specs.Response.{value, on-time, late, settles, settled-at, response-by}
-use Rattle.model.specs.ResponseMeaning.{Never-falls}
-use Rattle.model.proofs.ValueLaws.{value-grows}
+use Rattle.laws.proofs.SearchLaws.{Least, Right, least-right, least-is}
+use Rattle.model.specs.Response.{value, Response, on-time, late, settles, settled-at, response-by}
+use Rattle.model.specs.ResponseMeaning.{Never-falls, Rises-to, On-time, Late, Says}
+use Rattle.model.proofs.ValueLaws.{value-mono, value-stays, value-climbs}
+use Rattle.model.proofs.SettleLaws.{settles-past, settles-again, settles-not, repeats-within, goes-within, goes-up, settled-late, settled-on-time, response-at}
 
--- ---- the test and its facts
+-- ---- what the response says
 
-module _ (share : ℕ → ℕ) (e d n : ℕ) where
-  -- a value goes on where it is within D and another one follows
-  settles-test : Catches (settles share e d n)
-      ((value share e n ≤ d) × (value share e (suc n) ≡ value share e n → ⊥))
-  unfolding settles
-  settles-test =
-      catches-or (catches-lt d (value share e n)) (catches-eq (value share e (suc n)) (value share e n))
+-- a value passes D soon: the one before is within it, and is at least E and its number
+late-few : (share : ℕ → ℕ) (e d n : ℕ) → Rises-to share e n → ((m : ℕ) → m < n → value share e m ≤ d)
+    → n ≤ suc d - e
+late-few share e d zero rises within = omega arith
+late-few share e d (suc n) rises within =
+    omega (arith, value-climbs share e n (λ m less. rises m (omega arith)), within n (omega arith))
 
-  pub settles-past : d < value share e n → settles share e d n ≡ true
-  settles-past past = broken settles-test (λ goes-on. omega (arith, goes-on .0))
+module _ {share : ℕ → ℕ} (falls-never : Never-falls share) (e d : ℕ) where
+  -- the first value that settles
+  module _ (n : ℕ) (none : (m : ℕ) → m < n → settles share e d m ≡ false) where
+    rises : Rises-to share e n
+    rises m less = goes-up share e d m falls-never (none m less)
 
-  pub settles-again : value share e (suc n) ≡ value share e n → settles share e d n ≡ true
-  settles-again again = broken settles-test (λ goes-on. goes-on .1 again)
+    first-within : (m : ℕ) → m < n → value share e m ≤ d
+    first-within m less = goes-within share e d m (none m less)
 
-  pub settles-not : value share e n ≤ d → value share e n < value share e (suc n) → settles share e d n ≡ false
-  settles-not within rises = kept settles-test (within, λ again. omega arith)
+    says-late : d < value share e n → Late share e d (value share e n) n
+    says-late past =
+        record {
+          is = refl;
+          passes = past;
+          first = first-within;
+          rises = rises;
+          few = late-few share e d n rises first-within;
+        }
 
-  pub settled-late : d < value share e n → settled-at share e d n ≡ late (value share e n) n
-  unfolding settled-at
-  settled-late past = rw (lt-ltb d (value share e n) past)
+    says-on-time : value share e n ≤ d → settles share e d n ≡ true → On-time share e d (value share e n) n
+    says-on-time within settled =
+        record {
+          is = refl;
+          repeats = value-stays share e n (repeats-within share e d n settled within);
+          within = within;
+          first = λ m less. omega (arith, rises m less, value-mono falls-never e (suc m) n less);
+          rises = rises;
+          few = omega (arith, value-climbs share e n rises);
+        }
 
-  pub settled-on-time : value share e n ≤ d → settled-at share e d n ≡ on-time (value share e n) n
-  unfolding settled-at
-  settled-on-time within = rw (le-ltb d (value share e n) within)
+    says-settled : settles share e d n ≡ true → Says share e d (settled-at share e d n)
+    says-settled settled =
+        elim (lt-or-le d (value share e n)) [
+          | inl past ↦ rw (settled-late share e d n past) (says-late past)
+          | inr within ↦ rw (settled-on-time share e d n within) (says-on-time within settled)
+        ]
 
-  -- the response is what the search for the first that settles finds
-  pub response-at : at n ≡ least-from (settles share e d) (suc (suc d)) 0
-      → response-by share e d ≡ settled-at share e d n
+  -- something is found: else value d + 1 would be within D, after d + 1 rises
+  says : (f : Found) → Right (settles share e d) (suc (suc d)) 0 f
+      → Says share e d (settled-at share e d (place-or 0 f))
+  says (at n) l = says-settled n (λ m less. l .first m (omega arith) less) (l .passes)
+  says nowhere none =
+      absurd (omega (
+        arith,
+        value-climbs share e (suc d) (rises (suc d) (λ m less. none m (omega arith) (omega arith))),
+        goes-within share e d (suc d) (none (suc d) (omega arith) (omega arith)),
+      ))
+
+  pub response-says : Says share e d (response-by share e d)
   unfolding response-by
-  response-at found = ap (λ (f : Found). settled-at share e d (place-or 0 f)) (sym found)
+  response-says =
+      says (least-from (settles share e d) (suc (suc d)) 0) (least-right (settles share e d) (suc (suc d)) 0)
 
-  -- ---- and back: what a value that settles has, and what one that does not
+-- ---- and only the response says it
 
-  repeats-within : settles share e d n ≡ true → value share e n ≤ d → value share e (suc n) ≡ value share e n
-  repeats-within settled within =
-      elim (ℕ-discrete (value share e (suc n)) (value share e n)) [
-        | yes again ↦ again
-        | no other ↦ absurd (settles-test .caught settled (within, other))
-      ]
+module _ (share : ℕ → ℕ) (e d : ℕ) where
+  found-at : (n : ℕ) → n ≤ suc d → settles share e d n ≡ true
+      → ((m : ℕ) → m < n → value share e m ≤ d) → Rises-to share e n → response-by share e d ≡ settled-at share e d n
+  found-at n few settled within rises =
+      response-at share e d n (sym (least-is (settles share e d) (suc (suc d)) 0 n first))
+    where
+      first : Least (settles share e d) (suc (suc d)) 0 n
+      first =
+          record {
+            low = omega arith;
+            high = omega arith;
+            passes = settled;
+            first = λ m low less. settles-not share e d m (within m less) (rises m less);
+          }
 
-  goes-within : settles share e d n ≡ false → value share e n ≤ d
-  goes-within goes-on = settles-test .passed goes-on .0
-
-  goes-up : Never-falls share → settles share e d n ≡ false → value share e n < value share e (suc n)
-  goes-up falls-never goes-on =
-      let other : value share e n ≡ value share e (suc n) → ⊥ = λ same. settles-test .passed goes-on .1 (sym same) in
-      elim (lt-or-le (value share e n) (value share e (suc n))) [
-        | inl less ↦ less
-        | inr most ↦ absurd (other (omega (arith, value-grows falls-never e n)))
-      ]
+  pub says-only : (r : Response) → Says share e d r → r ≡ response-by share e d
+  says-only (late v n) l =
+      let past : d < value share e n = omega (arith, l .is, l .passes) in
+      ap (λ (w : ℕ). late w n) (l .is)
+      ∙ sym (found-at n (omega (arith, l .few)) (settles-past share e d n past) (l .first) (l .rises)
+      ∙ settled-late share e d n past)
+  says-only (on-time v n) t =
+      let within : value share e n ≤ d = omega (arith, t .is, t .within) in
+      let again : value share e (suc n) ≡ value share e n = t .repeats (suc n) (omega arith) ∙ t .is in
+      ap (λ (w : ℕ). on-time w n) (t .is)
+      ∙ sym (found-at n (omega (arith, t .few)) (settles-again share e d n again)
+      (λ m less. omega (arith, t .first m less, t .within)) (t .rises)
+      ∙ settled-on-time share e d n within)

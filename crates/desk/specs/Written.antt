@@ -7,6 +7,7 @@ use lib.ListN.{replicate}
 use Rattle.laws.specs.Search.{Found}
 use Rattle.model.specs.Verdict.{Verdict}
 use Rattle.model.specs.Replay.{Replayed}
+use Rattle.model.specs.Response.{Response}
 use Rattle.model.specs.Answer.{Answer, answered, refused}
 use Rattle.table.specs.declared.reader.Refusal.{Refusal}
 use Rattle.verdict.specs.Written.{closing-of, judged-of}
@@ -15,6 +16,7 @@ use Rattle.requests.specs.declared.reader.Checked.the-variants as checked
 use Rattle.bench.specs.declared.state.Bench.{Bench}
 use Rattle.bench.specs.Loaded.{loaded, no-jobs}
 use Rattle.bench.specs.Written.{replayed-of}
+use Rattle.response.specs.Written.{response-of}
 use Rattle.desk.specs.Questions.{list-asked, load-asked}
 use Rattle.desk.specs.declared.Amount.{Amount}
 use Rattle.desk.specs.declared.Amount.the-variants as amount
@@ -27,6 +29,8 @@ use Rattle.desk.specs.declared.Loaded.{Loaded}
 use Rattle.desk.specs.declared.Ending.{Ending}
 use Rattle.desk.specs.declared.Ending.the-variants as ending
 use Rattle.desk.specs.declared.Judged.{Judged}
+use Rattle.desk.specs.declared.Reply.{Reply}
+use Rattle.desk.specs.declared.Reply.the-variants as reply
 
 -- "Every refusal is a refusal number with the record index"
 abbrev pub refusal : ℕ → ℕ → Refusal
@@ -56,6 +60,10 @@ checked-of (refused number index) = checked.Refused (refusal number index)
 abbrev pub ending-of : Answer Replayed → Ending
 ending-of (answered r) = ending.Is (replayed-of r)
 ending-of (refused number index) = ending.Refused (refusal number index)
+
+abbrev pub reply-of : Answer Response → Reply
+reply-of (answered r) = reply.Is (response-of r)
+reply-of (refused number index) = reply.Refused (refusal number index)
 
 -- a bench with nothing to do stands beside a refusal
 abbrev pub bench-in : Answer Bench → Bench

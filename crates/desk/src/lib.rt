@@ -3,12 +3,14 @@
 // and record index.
 mod good;
 mod lists;
+mod priority;
 mod writer;
 
 use bench::replay::Replayed;
 use bench::state::Bench;
 use overload::write::Written;
 use requests::reader::Checked;
+use response::rounds::Response;
 use table::reader::Reading;
 use table::reader::Refusal;
 use verdict::judge::Verdict;
@@ -20,7 +22,9 @@ ghost use Rattle.desk.specs.Questions.{one-task, demand-asked, work-aske
 ghost use Rattle.desk.specs.Questions.{list-asked, replay-asked};
 ghost use Rattle.overload.specs.Place.{Wrote};
 ghost use Rattle.desk.specs.Overload.{overload-asked};
+ghost use Rattle.desk.specs.Response.{response-asked};
 ghost use Rattle.desk.specs.Written.{amount-of, spare-of, window-of, judgement-of, checked-of, ending-of, loading-of};
+ghost use Rattle.desk.specs.Written.{reply-of};
 
 pub enum Amount {
     Is(u64),
@@ -44,6 +48,11 @@ pub enum Judgement {
 
 pub enum Ending {
     Is(Replayed),
+    Refused(Refusal),
+}
+
+pub enum Reply {
+    Is(Response),
     Refused(Refusal),
 }
 
@@ -126,6 +135,17 @@ pub fn judge(s: &[u8]) -> Judged
         };
     };
     good::judge_in(s, shape)
+}
+
+// The response of a frame under fixed priorities, task 0 the highest, with the number of its value in the recurrence.
+pub fn respond(s: &[u8], task: u64, frame: u64) -> Reply
+    ensures { λ r. ⌜ r ≡ reply-of (response-asked (now (s .entry)) task frame) ⌝ }
+{
+    let reading = table::reader::read_table(s);
+    let Reading::Table(shape) = reading else {
+        return Reply::Refused(table::reader::refusal_of(reading));
+    };
+    priority::respond_in(s, shape, task, frame)
 }
 
 // The overload list of the table, written into a buffer from a place on. The answer is how many bytes were written, or

@@ -5,6 +5,7 @@ use mathlib.Core.Path.{_≡_, ap, subst}
 use mathlib.Core.List.{List}
 use Prim.Native.Nat.{ℕ, _+_, _≤_, _<_}
 use lib.Dec.{ltb}
+use native.Mathlib.Omega.{arith}
 use borrow.Author.Tests.{lt-ltb, le-ltb}
 use Rattle.laws.specs.Search.{place-or}
 use Rattle.laws.proofs.SearchLaws.{Seeking, seeking-hit, seeking-on, seeking-end}
@@ -17,12 +18,12 @@ module _ (s : List ℕ) {n i : ℕ} (seeking : Seeking (above s) n 0 i) where
   unfolding first-above
   above-hit {x} more read longer =
       ap (place-or n)
-      (seeking-hit seeking more (subst (λ (y : Record). ltb (y .p) (y .d) ≡ true) read (lt-ltb _ _ longer)))
+      (seeking-hit seeking (omega arith) (subst (λ (y : Record). ltb (y .p) (y .d) ≡ true) read (lt-ltb _ _ longer)))
 
   pub above-on : {x : Record} → i < n → x ≡ record-of s i → x .d ≤ x .p → Seeking (above s) n 0 (i + 1)
   above-on {x} more read within =
-      seeking-on seeking more (subst (λ (y : Record). ltb (y .p) (y .d) ≡ false) read (le-ltb _ _ within))
+      seeking-on seeking (omega arith) (subst (λ (y : Record). ltb (y .p) (y .d) ≡ false) read (le-ltb _ _ within))
 
   pub above-end : n ≤ i → n ≡ place-or n (first-above n s)
   unfolding first-above
-  above-end past = ap (place-or n) (seeking-end seeking past)
+  above-end past = ap (place-or n) (seeking-end seeking (omega arith))

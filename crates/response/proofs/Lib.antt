@@ -1,3 +1,4 @@
 pub mod DeadlineLaws
 pub mod ShareLaws
 pub mod RoundLaws
+pub mod AnswerLaws

@@ -9,7 +9,7 @@ use Rattle.laws.proofs.SearchLaws.{Seeking, seeking-start, seeking-hit, seeking
 use Rattle.model.specs.Response.{value, on-time, late, settles, response-by}
 use Rattle.model.specs.ResponseMeaning.{Never-falls}
 use Rattle.model.proofs.ValueLaws.{value-first, value-next, value-grows}
-use Rattle.model.proofs.ResponseLaws.{settles-past, settles-again, settles-not, settled-late, settled-on-time, response-at}
+use Rattle.model.proofs.SettleLaws.{settles-past, settles-again, settles-not, settled-late, settled-on-time, response-at}
 
 -- v is value n, and no value before it passes D or is repeated
 pub record Rounds (share : ℕ → ℕ) (e d v n : ℕ) : Type 0 where

@@ -21,13 +21,13 @@ loop-holds c = seeking-start _ _ _
 -- D above P
 returns : tie.Need-returns Inv-loop μ-loop
 returns c =
-    let at-loop = c .before .before .before in
-    above-hit _ (at-loop .loop .inv) (search needs) (search needs) (c .if1 .taken)
+    let at-test = c .before .before .before in
+    above-hit _ (at-test .before .loop .inv) (search needs) (search needs) (c .if1 .taken)
 
 loop-again : tie.Need-loop-again Inv-loop μ-loop
 loop-again c =
-    let at-loop = c .before .before .before in
-    above-on _ (at-loop .loop .inv) (search needs) (search needs) (search needs)
+    let at-test = c .before .before .before in
+    above-on _ (at-test .before .loop .inv) (search needs) (search needs) (search needs)
 
 -- none
 returns-2 : tie.Need-returns-2 Inv-loop μ-loop

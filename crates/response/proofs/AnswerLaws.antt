@@ -1,0 +1,31 @@
+-- The two ends of the walk as the frame's own response: D, E and the higher tasks' share are those of the table.
+-- Assumes nothing.
+use mathlib.Core.Path.{_≡_, sym, ap, _∙_}
+use Prim.Native.Nat.{ℕ, _+_, _-_, _≤_, _<_}
+use native.Mathlib.Omega.{arith}
+use Rattle.model.specs.Task.{Table}
+use Rattle.model.specs.Response.{higher-share, response-by, response}
+use Rattle.response.specs.declared.rounds.Response.the-variants.{OnTime, Late}
+use Rattle.response.specs.Written.{response-of, Responds}
+use Rattle.response.proofs.RoundLaws.{Rounds, rounds-late, rounds-on-time}
+
+module _ (table : Table) (k i : ℕ) {run end v n : ℕ} (run-is : run ≡ table .task k .E i) (end-is : end ≡ table .task k .D i)
+    (rounds : Rounds (higher-share table k) run end v n) where
+  answer : response-by (higher-share table k) run end ≡ response table k i
+  unfolding response
+  answer = rw (run-is, end-is)
+
+  pub late-answer : end < v → Responds table k i (Late v n)
+  late-answer past =
+      record {
+        is = ap response-of (rounds-late rounds past ∙ answer);
+        few = λ value rounds e. let apart : _≡_ {A = ℕ} 0 1 = cc in absurd (omega arith);
+      }
+
+  pub on-time-answer : {next : ℕ} → next ≡ run + higher-share table k v → v ≤ end → next ≡ v
+      → Responds table k i (OnTime v n)
+  on-time-answer next-is within same =
+      record {
+        is = ap response-of (rounds-on-time rounds next-is within same ∙ answer);
+        few = λ value counted e. let same-count : n ≡ counted = cc in omega (arith, rounds .climbs, run-is, end-is);
+      }

@@ -1,0 +1,60 @@
+-- `respond` meets its contract. The invariant: the value is that of the round, and none before it passes D or is
+-- repeated (`Rounds`). The measure is what the value has left to D: every turn raises it.
+-- Assumes nothing.
+use Prim.Native.Nat.{suc, _-_}
+use native.Mathlib.Omega.{arith}
+use borrow.Author.Needs.{needs}
+use Rattle.model.specs.Response.{higher-share}
+use Rattle.table.specs.TableOf.{table-of}
+use Rattle.response.proofs.RoundLaws.{Rounds, rounds-start, rounds-rise, rounds-on}
+use Rattle.response.proofs.AnswerLaws.{on-time-answer, late-answer}
+use Rattle.response.proofs.rounds.respond.Statement.{statement}
+use Rattle.response.proofs.rounds.respond.Tie as tie
+
+abbrev Inv-loop : tie.InvT-loop
+Inv-loop s plan k i run end value₀ round₀ value round = Rounds (higher-share (table-of s) k) run end value round
+
+abbrev μ-loop : tie.MeasureT-loop
+μ-loop s plan k i run end value₀ round₀ value round = suc end - value
+
+loop-holds : tie.Need-loop-holds Inv-loop μ-loop
+loop-holds c = rounds-start _ _ _
+
+add-shares-requires : tie.Need-add-shares-requires Inv-loop μ-loop
+add-shares-requires c κs = ?
+
+add-next : tie.Need-add-next Inv-loop μ-loop
+add-next c = ?
+
+returns : tie.Need-returns Inv-loop μ-loop
+returns c = ?
+
+add-round : tie.Need-add-round Inv-loop μ-loop
+add-round c = ?
+
+loop-less : tie.Need-loop-less Inv-loop μ-loop
+loop-less c = ?
+
+loop-again : tie.Need-loop-again Inv-loop μ-loop
+loop-again c = ?
+
+returns-2 : tie.Need-returns-2 Inv-loop μ-loop
+returns-2 c = ?
+
+pub respond-spec : {M : Type 1} → statement M
+respond-spec =
+    tie.close
+    (tie.spec
+    Inv-loop
+    μ-loop
+    (λ c κs. search needs)
+    (λ c. search needs)
+    (λ c. search needs)
+    loop-holds
+    add-shares-requires
+    add-next
+    returns
+    add-round
+    loop-less
+    loop-again
+    returns-2)

@@ -22,17 +22,20 @@ pub work-moves : {task : Task} → Proper task → Moves task (λ i. 1)
 work-moves proper = record { some = proper .some; gap = proper .moves; room = λ i h. le-refl 1 }
 
 -- work in the document's words: "add E of frames whose offset is below w; greatest over all s"
-below : Task → ℕ → ℕ → ℕ → ℕ
-below task w s n = only (ltb (offset task s n) w) (task .E (frame task s n))
+pub counted-below : (task : Task) (w s : ℕ)
+    → counted task (λ i. 1) w s ≡ sum (suc w) (λ n. only (ltb (offset task s n) w) (task .E (frame task s n)))
+unfolding counted
+counted-below task w s =
+    sum-cong (suc w) (part task (λ i. 1) w s) (λ n. only (ltb (offset task s n) w) (task .E (frame task s n)))
+    (λ n h. ap (λ (o : ℕ). only (leb o w) (task .E (frame task s n))) (add-one (offset task s n)))
 
 pub work-below : (task : Task) (w : ℕ)
     → work task w ≡ greatest (task .count)
     (λ s. sum (suc w) (λ n. only (ltb (offset task s n) w) (task .E (frame task s n))))
-unfolding counted below
 work-below task w =
-    greatest-cong (task .count) (counted task (λ i. 1) w) (λ s. sum (suc w) (below task w s))
-    (λ s l. sum-cong (suc w) (part task (λ i. 1) w s) (below task w s)
-    (λ n h. ap (λ (o : ℕ). only (leb o w) (task .E (frame task s n))) (add-one (offset task s n))))
+    greatest-cong (task .count) (counted task (λ i. 1) w)
+    (λ s. sum (suc w) (λ n. only (ltb (offset task s n) w) (task .E (frame task s n))))
+    (λ s l. counted-below task w s)
 
 -- ---- one task
 

@@ -29,3 +29,4 @@ pub mod WeaveSame
 pub mod ValueLaws
 pub mod SettleLaws
 pub mod ResponseLaws
+pub mod ShareLaws

@@ -29,7 +29,7 @@ share-below task w = counted-below task w (peak-frame task)
 
 pub share-mono : (task : Task) → Never-falls (share-of task)
 unfolding share-of
-share-mono task v w order = counted-mono task (λ i. 1) v w (peak-frame task) order
+share-mono task v w order = counted-mono task _ v w (peak-frame task) order
 
 pub higher-never-falls : (table : Table) (k : ℕ) → Never-falls (higher-share table k)
 unfolding higher-share

@@ -10,9 +10,9 @@ use native.Mathlib.Omega.{arith}
 use lib.Dec.{ltb, eqb}
 use borrow.Author.Tests.{lt-ltb, le-ltb, eq-eqb, ne-eqb}
 use Rattle.laws.specs.Sums.{greatest}
-use Rattle.laws.specs.Search.{least-from, place-or}
+use Rattle.laws.specs.Search.{place-or, first-greatest}
 use Rattle.laws.proofs.Cases.{lt-or-le}
-use Rattle.laws.proofs.SumLaws.{greatest-ge}
+use Rattle.laws.proofs.SumLaws.{greatest-ge, greatest-cong}
 use Rattle.laws.proofs.SearchLaws.{Least, least-is, none-is}
 
 -- sum is the greatest of f 0, .., f (n - 1), and place the lowest that has it; 0 and 0 where n is 0
@@ -77,7 +77,7 @@ module _ {f : ℕ → ℕ} {n sum place : ℕ} (so-far : Peaked f n sum place) w
       which (inr less) = rw (le-ltb sum (f n) less, max-eq-left less) (peaked-kept less)
 
   -- the place is what the search for the lowest one finds
-  pub peaked-lowest : place ≡ place-or 0 (least-from (λ s. eqb (f s) (greatest n f)) n 0)
+  pub peaked-lowest : place ≡ first-greatest f n
   peaked-lowest =
       elim (lt-or-le 0 n) [
         | inl some ↦ sym (ap (place-or 0) (least-is _ n 0 place (found some)))
@@ -103,3 +103,21 @@ peak-of f zero = (0, peaked-none f)
 peak-of f (suc n) =
     let before = peak-of f n in
     (cond (ltb (greatest n f) (f n)) n (before .0), rw add-one at (peaked-turn (before .1) refl refl refl))
+
+-- ---- values that agree below n have one lowest place
+
+peaked-same : {f g : ℕ → ℕ} {n sum place : ℕ} → ((i : ℕ) → i < n → f i ≡ g i) → Peaked f n sum place
+    → Peaked g n sum place
+peaked-same {f} {g} {n} {sum} {place} same peaked =
+    record {
+      sum-is = peaked .sum-is ∙ greatest-cong n f g same;
+      inside = peaked .inside;
+      below = peaked .below;
+      has = λ some. sym (same place (peaked .below some)) ∙ peaked .has some;
+      lowest = λ i less. omega (arith, peaked .lowest i less, same i (omega (arith, peaked .inside)));
+    }
+
+pub first-greatest-cong : (f g : ℕ → ℕ) (n : ℕ) → ((i : ℕ) → i < n → f i ≡ g i)
+    → first-greatest f n ≡ first-greatest g n
+first-greatest-cong f g n same =
+    let peak = peak-of f n in sym (peaked-lowest (peak .1)) ∙ peaked-lowest (peaked-same same (peak .1))

@@ -1,7 +1,7 @@
 -- The two ends of the walk as the frame's own response: D, E and the higher tasks' share are those of the table.
 -- Assumes nothing.
-use mathlib.Core.Path.{_≡_, sym, ap, _∙_}
-use Prim.Native.Nat.{ℕ, _+_, _-_, _≤_, _<_}
+use mathlib.Core.Path.{_≡_, ap, _∙_}
+use Prim.Native.Nat.{ℕ, _+_, _≤_, _<_}
 use native.Mathlib.Omega.{arith}
 use Rattle.model.specs.Task.{Table}
 use Rattle.model.specs.Response.{higher-share, response-by, response}
@@ -22,10 +22,10 @@ module _ (table : Table) (k i : ℕ) {run end v n : ℕ} (run-is : run ≡ table
         few = λ value rounds e. let apart : _≡_ {A = ℕ} 0 1 = cc in absurd (omega arith);
       }
 
-  pub on-time-answer : {next : ℕ} → next ≡ run + higher-share table k v → v ≤ end → next ≡ v
+  pub on-time-answer : {taken : ℕ} → taken ≡ higher-share table k v → v ≤ end → run + taken ≡ v
       → Responds table k i (OnTime v n)
-  on-time-answer next-is within same =
+  on-time-answer taken-is within same =
       record {
-        is = ap response-of (rounds-on-time rounds next-is within same ∙ answer);
+        is = ap response-of (rounds-on-time rounds taken-is within same ∙ answer);
         few = λ value counted e. let same-count : n ≡ counted = cc in omega (arith, rounds .climbs, run-is, end-is);
       }

@@ -1,8 +1,8 @@
 -- The recurrence walked value by value, over any share that never falls: what the loop keeps, and a law for its start,
 -- its turn and its two ends.
 -- Assumes nothing.
-use mathlib.Core.Path.{_≡_, sym, _∙_, ap, ap₂}
-use Prim.Native.Nat.{ℕ, suc, _+_, _-_, _≤_, _<_}
+use mathlib.Core.Path.{_≡_, sym, _∙_, ap}
+use Prim.Native.Nat.{ℕ, suc, _+_, _≤_, _<_}
 use native.Mathlib.Numerals.{add-one}
 use native.Mathlib.Omega.{arith}
 use Rattle.laws.proofs.SearchLaws.{Seeking, seeking-start, seeking-hit, seeking-on}
@@ -36,15 +36,15 @@ module _ {share : ℕ → ℕ} {e d v n : ℕ} (rounds : Rounds share e d v n) w
       ap (λ (x : ℕ). late x n) (rounds .is)
       ∙ sym (response-at share e d n found ∙ settled-late share e d n over)
 
-  module _ {next : ℕ} (next-is : next ≡ e + share v) (within : v ≤ d) where
-    next-value : next ≡ value share e (suc n)
-    next-value = next-is ∙ ap (λ (x : ℕ). e + share x) (rounds .is) ∙ sym (value-next share e n)
+  module _ {taken : ℕ} (taken-is : taken ≡ share v) (within : v ≤ d) where
+    next-value : e + taken ≡ value share e (suc n)
+    next-value = ap (λ (x : ℕ). e + x) (taken-is ∙ ap share (rounds .is)) ∙ sym (value-next share e n)
 
     inside : value share e n ≤ d
     inside = omega (arith, rounds .is)
 
     -- a value that is repeated
-    pub rounds-on-time : next ≡ v → on-time v n ≡ response-by share e d
+    pub rounds-on-time : e + taken ≡ v → on-time v n ≡ response-by share e d
     rounds-on-time same =
         let again = settles-again share e d n (sym next-value ∙ same ∙ rounds .is) in
         let found = seeking-hit (rounds .seeking) (omega (arith, rounds .few)) again in
@@ -52,11 +52,11 @@ module _ {share : ℕ → ℕ} {e d v n : ℕ} (rounds : Rounds share e d v n) w
         ∙ sym (response-at share e d n found ∙ settled-on-time share e d n inside)
 
     -- any other rises
-    module _ (falls-never : Never-falls share) (other : next ≡ v → ⊥) where
-      pub rounds-rise : v < next
+    module _ (falls-never : Never-falls share) (other : e + taken ≡ v → ⊥) where
+      pub rounds-rise : v < e + taken
       rounds-rise = omega (arith, other, rounds .is, next-value, value-grows falls-never e n)
 
-      pub rounds-on : Rounds share e d next (n + 1)
+      pub rounds-on : Rounds share e d (e + taken) (n + 1)
       rounds-on =
           let goes-on = settles-not share e d n inside (omega (arith, rounds-rise, rounds .is, next-value)) in
           record {

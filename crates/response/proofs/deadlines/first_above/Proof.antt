@@ -21,13 +21,13 @@ loop-holds c = seeking-start _ _ _
 -- D above P
 returns : tie.Need-returns Inv-loop μ-loop
 returns c =
-    let at-test = c .before .before .before in
-    above-hit _ (at-test .before .loop .inv) (search needs) (search needs) (c .if1 .taken)
+    let read = c .before .before in
+    above-hit _ (read .before .before .loop .inv) (search needs) (read .record-at .ensures) (c .if1 .taken)
 
 loop-again : tie.Need-loop-again Inv-loop μ-loop
 loop-again c =
-    let at-test = c .before .before .before in
-    above-on _ (at-test .before .loop .inv) (search needs) (search needs) (search needs)
+    let read = c .before .before in
+    above-on _ (read .before .before .loop .inv) (search needs) (read .record-at .ensures) (search needs)
 
 -- none
 returns-2 : tie.Need-returns-2 Inv-loop μ-loop

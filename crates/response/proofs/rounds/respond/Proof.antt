@@ -5,7 +5,9 @@ use Prim.Native.Nat.{suc, _-_}
 use native.Mathlib.Omega.{arith}
 use borrow.Author.Needs.{needs}
 use Rattle.model.specs.Response.{higher-share}
+use Rattle.model.proofs.ShareLaws.{higher-never-falls}
 use Rattle.table.specs.TableOf.{table-of}
+use Rattle.table.proofs.ReadyLaws.{ready-tasks}
 use Rattle.response.proofs.RoundLaws.{Rounds, rounds-start, rounds-rise, rounds-on}
 use Rattle.response.proofs.AnswerLaws.{on-time-answer, late-answer}
 use Rattle.response.proofs.rounds.respond.Statement.{statement}
@@ -21,25 +23,48 @@ loop-holds : tie.Need-loop-holds Inv-loop μ-loop
 loop-holds c = rounds-start _ _ _
 
 add-shares-requires : tie.Need-add-shares-requires Inv-loop μ-loop
-add-shares-requires c κs = ?
+add-shares-requires c κs =
+    let read = c .before .before .before in
+    let entry = read .before .before .before in
+    (entry .pre .0, omega (arith, ready-tasks (entry .pre .0), entry .pre .1 .task), search needs)
 
+-- a value of the recurrence is far below 2 ^ 64
 add-next : tie.Need-add-next Inv-loop μ-loop
-add-next c = ?
+add-next c = let share = c .add-shares .ensures in omega (arith, share .at-most)
 
+-- the value is repeated
 returns : tie.Need-returns Inv-loop μ-loop
-returns c = ?
+returns c =
+    let at-loop = c .before .before .before in
+    let read = at-loop .before .before .before in
+    let frame = read .frame-at .ensures in
+    let share = c .before .add-shares .ensures in
+    on-time-answer _ _ _ (frame .e) (frame .d) (at-loop .loop .inv) (share .is) (search needs) (c .if1 .taken)
 
 add-round : tie.Need-add-round Inv-loop μ-loop
-add-round c = ?
+add-round c = let at-loop = c .before .before .before in omega (arith, at-loop .loop .inv .few)
 
 loop-less : tie.Need-loop-less Inv-loop μ-loop
-loop-less c = ?
+loop-less c =
+    let at-loop = c .before .before .before in
+    let share = c .before .add-shares .ensures in
+    omega (
+      arith,
+      rounds-rise (at-loop .loop .inv) (share .is) (search needs) (higher-never-falls _ _) (c .if1 .left),
+    )
 
 loop-again : tie.Need-loop-again Inv-loop μ-loop
-loop-again c = ?
+loop-again c =
+    let at-loop = c .before .before .before in
+    let share = c .before .add-shares .ensures in
+    rounds-on (at-loop .loop .inv) (share .is) (search needs) (higher-never-falls _ _) (c .if1 .left)
 
+-- the value passes D
 returns-2 : tie.Need-returns-2 Inv-loop μ-loop
-returns-2 c = ?
+returns-2 c =
+    let read = c .before .before .before .before in
+    let frame = read .frame-at .ensures in
+    late-answer _ _ _ (frame .e) (frame .d) (c .before .loop .inv) (search needs)
 
 pub respond-spec : {M : Type 1} → statement M
 respond-spec =

@@ -12,3 +12,4 @@ pub mod ListExample
 pub mod OverloadReplay
 pub mod WritingExample
 pub mod ReplayLaws
+pub mod ResponseLaws

@@ -1,0 +1,32 @@
+-- `respond` meets its contract: the table's refusal is passed on; a table is asked.
+-- Assumes nothing.
+use mathlib.Core.Path.{sym, ap, _∙_}
+use borrow.Author.Needs.{needs}
+use Rattle.desk.specs.Response.{response-asked}
+use Rattle.desk.specs.Written.{reply-of}
+use Rattle.desk.proofs.AskLaws.{passed-on}
+use Rattle.desk.proofs.respond.Statement.{statement}
+use Rattle.desk.proofs.respond.Tie as tie
+
+-- refused
+returns : tie.Need-returns
+unfolding response-asked
+returns c =
+    let told = c .before in
+    ap reply-of (passed-on _ _ (told .before .before .read-table .ensures) (told .enum-told .given .1)
+    (c .refusal-of .ensures))
+
+respond-in-requires : tie.Need-respond-in-requires
+respond-in-requires c κs = sym (c .before .before .before .read-table .ensures) ∙ c .before .reading .given .1
+
+pub respond-spec : {M : Type 1} → statement M
+respond-spec =
+    tie.close
+    (tie.spec
+    (λ c κs. search needs)
+    (λ c. search needs)
+    (λ c. search needs)
+    (λ c κs. search needs)
+    returns
+    respond-in-requires
+    (λ c. search needs))

@@ -2,27 +2,21 @@
 -- "Tables are tested first .. or 9 then 8".
 -- Assumes nothing.
 use Prim.Native.Nat.{ℕ}
-use mathlib.Core.Bool.{Bool, _||_}
 use mathlib.Core.List.{List}
-use lib.Dec.{leb}
 use Rattle.laws.specs.Search.{Found, at, nowhere}
-use Rattle.model.specs.Task.{Table}
+use Rattle.model.specs.Request.{no-frame}
 use Rattle.model.specs.Response.{Response, response}
 use Rattle.model.specs.Answer.{Answer, answered, refused}
 use Rattle.table.specs.Bytes.{records}
 use Rattle.response.specs.Deadlines.{first-above}
-use Rattle.desk.specs.Questions.{on-table, refuse-if, no-task}
-
--- 9: "no such task or frame"
-abbrev pub no-frame : Table → ℕ → ℕ → Bool
-no-frame table k i = no-task table k || leb (table .task k .count) i
+use Rattle.desk.specs.Questions.{on-table, refuse-if}
 
 -- this refusal, carrying the record that was found; else the rest
 abbrev pub refuse-at : {A : Type 0} → Found → ℕ → Answer A → Answer A
 refuse-at (at index) number rest = refused number index
 refuse-at nowhere number rest = rest
 
--- 8: "response asked and some frame of the table has D above its P", carrying the "first such record"
+-- 9: "no such task or frame"; 8: "response asked and some frame of the table has D above its P", carrying the "first such record"
 unfoldable pub response-asked : List ℕ → ℕ → ℕ → Answer Response
 response-asked s k i =
     on-table s (λ table. refuse-if (no-frame table k i) 9

@@ -12,12 +12,8 @@ pub fn respond_in(s: &[u8], shape: Shape, task: u64, frame: u64) -> Reply
     requires { ⌜ reading-of (now s) ≡ Table shape ⌝ }
     ensures { λ r. ⌜ r ≡ reply-of (response-asked (now (s .entry)) task frame) ⌝ }
 {
-    if shape.tasks as u64 <= task {
-        return Reply::Refused(crate::good::refuse(9));
-    }
     let plan = table::plan::make_plan(s, shape.records, shape.tasks);
-    let frames = table::frame::count_frames(s, plan, task as usize);
-    if frames as u64 <= frame {
+    if table::frame::is_missing(s, plan, task, frame) {
         return Reply::Refused(crate::good::refuse(9));
     }
     let index = response::deadlines::first_above(s, shape.records);

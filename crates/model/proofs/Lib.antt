@@ -1,5 +1,6 @@
 pub mod CyclicLaws
 pub mod DemandLaws
+pub mod FrameLaws
 pub mod AllLaws
 pub mod RunLaws
 pub mod ClosingLaws

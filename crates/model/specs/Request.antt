@@ -1,10 +1,11 @@
 -- Requests, and which lists of them are legal: document 01, "A table, record by record". A list has any length, its
 -- arrivals are any numbers, and it need not be sorted: length, limit and order are rules of "The replay bench".
 -- Assumes nothing.
+use mathlib.Core.Bool.{Bool, _||_}
 use mathlib.Core.Path.{_≡_}
 use mathlib.Core.Logic.{_⊎_}
 use Prim.Native.Nat.{ℕ, _+_, _≤_, _<_}
-use lib.Dec.{eqb}
+use lib.Dec.{leb, eqb}
 use Rattle.laws.specs.Sums.{tally}
 use Rattle.model.specs.Task.{Table}
 use Rattle.model.specs.Demand.{frame}
@@ -32,6 +33,10 @@ of-task list k i = tally i (λ j. eqb (list .request j .task) k)
 pub record Has-frame (table : Table) (k i : ℕ) : Type 0 where
   pub task : k < table .tasks
   pub frame : i < table .task k .count
+
+-- the test for it: "no such task or frame", "unknown task or frame"
+abbrev pub no-frame : Table → ℕ → ℕ → Bool
+no-frame table k i = leb (table .tasks) k || leb (table .task k .count) i
 
 -- request j is the next of its task after request i
 pub record Next (list : Requests) (i j : ℕ) : Type 0 where

@@ -5,20 +5,19 @@ use Prim.Native.Nat.{ℕ, _+_, _%_, _≤_, _<_}
 use mathlib.Core.Path.{_≡_, refl, sym, _∙_}
 use mathlib.Core.List.{List}
 use mathlib.Core.Bool.{Bool, true, false, not, _||_}
-use lib.Dec.{ltb, leb, eqb}
+use lib.Dec.{ltb, eqb}
 use native.Mathlib.Nat.{mod-lt}
 use native.Mathlib.Omega.{arith}
-use borrow.Author.Tests.{le-leb, lt-leb}
 use Rattle.model.specs.Task.{Task}
 use Rattle.model.specs.Demand.{frame}
-use Rattle.model.specs.Request.{Has-frame, last-arrival}
+use Rattle.model.specs.Request.{Has-frame, no-frame, last-arrival}
 use Rattle.table.specs.declared.plan.Plan.{Plan}
 use Rattle.table.specs.Ready.{Ready, Frames}
 use Rattle.table.specs.TableOf.{table-of}
 use Rattle.table.proofs.ReadyLaws.{ready-tasks, ready-few}
 use Rattle.requests.specs.declared.entry.Entry.{Entry}
 use Rattle.requests.specs.declared.rules.SoFar.{SoFar}
-use Rattle.requests.specs.Rules.{unknown, out-of-order, misplaced, out-of-turn, fault-of, Placed}
+use Rattle.requests.specs.Rules.{out-of-order, misplaced, out-of-turn, fault-of, Placed}
 use Rattle.requests.proofs.TestLaws.{catches-place, first-10, first-11, first-none, none-10}
 
 pub last-arrival-is : last-arrival ≡ 65535
@@ -41,14 +40,6 @@ module _ {task : Task} {count : ℕ} (counted : Frames task count) (i : ℕ) whe
 -- ---- the tests
 
 module _ {s : List ℕ} {plan : Plan} (ready : Ready s plan) (x : Entry) where
-  pub unknown-task : plan .tasks ≤ x .task → true ≡ unknown (table-of s) x
-  unknown-task past = sym (rw (le-leb (table-of s .tasks) (x .task) (omega (arith, ready-tasks ready))))
-
-  pub unknown-frame : {count : ℕ} → x .task < plan .tasks → Frames (table-of s .task (x .task)) count →
-      leb count (x .frame) ≡ unknown (table-of s) x
-  unknown-frame there counted =
-      sym (rw (lt-leb (table-of s .tasks) (x .task) (omega (arith, ready-tasks ready)), counted .is))
-
   module _ (has : Has-frame (table-of s) (x .task) (x .frame)) where
     pub known-low : x .task < 16
     known-low = omega (arith, has .task, ready-few ready)
@@ -65,11 +56,12 @@ module _ {s : List ℕ} {x : Entry} (b : SoFar) where
   pub fine-placed : {fault : ℕ} → fault ≡ fault-of (table-of s) b x → fault ≡ 0 → Placed s x
   fine-placed is none = passed-placed (none-10 (misplaced (table-of s) b x) (out-of-turn b x) (sym is ∙ none))
 
-module _ {s : List ℕ} {plan : Plan} (ready : Ready s plan) (b : SoFar) (x : Entry) where
-  pub misplaced-is : {strange early : Bool} → strange ≡ unknown (table-of s) x → early ≡ out-of-order b x →
-      (not (eqb (x .pad) 0) || (strange || (ltb 65535 (x .arrival) || early))) ≡ misplaced (table-of s) b x
-  misplaced-is strange-is early-is = rw (strange-is, early-is, last-arrival-is)
+pub misplaced-is : (s : List ℕ) (b : SoFar) (x : Entry) {strange early : Bool}
+    → strange ≡ no-frame (table-of s) (x .task) (x .frame) → early ≡ out-of-order b x
+    → (not (eqb (x .pad) 0) || (strange || (ltb 65535 (x .arrival) || early))) ≡ misplaced (table-of s) b x
+misplaced-is s b x strange-is early-is = rw (strange-is, early-is, last-arrival-is)
 
+module _ {s : List ℕ} {plan : Plan} (ready : Ready s plan) (b : SoFar) (x : Entry) where
   module _ {r10 : Bool} (is-10 : r10 ≡ misplaced (table-of s) b x) where
     pub fault-10 : r10 ≡ true → 10 ≡ fault-of (table-of s) b x
     fault-10 broken = sym (first-10 (out-of-turn b x) (sym is-10 ∙ broken))

@@ -5,9 +5,10 @@ use mathlib.Core.Path.{_≡_, refl}
 use mathlib.Core.Bool.{Bool, true, false}
 use lib.ListN.{getD}
 use native.Mathlib.Omega.{arith}
-use Rattle.laws.proofs.Tests.{Catches, catches-as, catches-lt, catches-le, catches-ne, catches-or, catches-when, catches-past}
+use Rattle.laws.proofs.Tests.{Catches, catches-as, catches-lt, catches-ne, catches-or, catches-when, catches-past}
 use Rattle.model.specs.Task.{Table}
 use Rattle.model.specs.Request.{Has-frame, last-arrival}
+use Rattle.model.proofs.FrameLaws.{catches-frame}
 use Rattle.requests.specs.declared.entry.Entry.{Entry}
 use Rattle.requests.specs.declared.rules.SoFar.{SoFar}
 use Rattle.requests.specs.Rules.{misplaced, out-of-turn, first-broken}
@@ -27,23 +28,22 @@ pub record Place-kept (table : Table) (b : SoFar) (x : Entry) : Type 0 where
 pub catches-place : (table : Table) (b : SoFar) (x : Entry) → Catches (misplaced table b x) (Place-kept table b x)
 catches-place table b x =
     catches-as
-    (λ (pad, ((task, frame), (near, (not-before, rising)))). place pad task frame near not-before rising)
+    (λ (pad, (known, (near, (not-before, rising)))). place pad known near not-before rising)
     (λ kept.
     let order = kept .in-order in
-    (kept .pad, ((kept .known .task, kept .known .frame), (kept .near, (order .not-before, order .rising)))))
+    (kept .pad, (kept .known, (kept .near, (order .not-before, order .rising)))))
     (catches-or
     (catches-ne _ 0)
     (catches-or
-    (catches-or (catches-le _ _) (catches-le _ _))
+    (catches-frame table (x .task) (x .frame))
     (catches-or (catches-lt last-arrival _) (catches-or (catches-lt _ _) (catches-when _ _ (catches-lt _ _))))))
   where
-    place : x .pad ≡ 0 → x .task < table .tasks → x .frame < table .task (x .task) .count →
-        x .arrival ≤ last-arrival → b .arrival ≤ x .arrival → (x .arrival ≡ b .arrival → b .task ≤ x .task) →
+    place : x .pad ≡ 0 → Has-frame table (x .task) (x .frame) → x .arrival ≤ last-arrival → b .arrival ≤ x .arrival → (x .arrival ≡ b .arrival → b .task ≤ x .task) →
         Place-kept table b x
-    place pad task frame near not-before rising =
+    place pad known near not-before rising =
         record {
           pad = pad;
-          known = record { task = task; frame = frame };
+          known = known;
           near = near;
           in-order = record { not-before = not-before; rising = rising };
         }

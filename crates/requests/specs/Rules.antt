@@ -3,11 +3,11 @@
 use Prim.Native.Nat.{ℕ, _+_, _≤_}
 use mathlib.Core.List.{List}
 use mathlib.Core.Bool.{Bool, not, cond, _&&_, _||_}
-use lib.Dec.{ltb, leb, eqb}
+use lib.Dec.{ltb, eqb}
 use lib.ListN.{getD, set, replicate}
 use Rattle.model.specs.Task.{Table}
 use Rattle.model.specs.Demand.{frame}
-use Rattle.model.specs.Request.{Has-frame, last-arrival}
+use Rattle.model.specs.Request.{Has-frame, no-frame, last-arrival}
 use Rattle.table.specs.TableOf.{table-of}
 use Rattle.requests.specs.declared.entry.Entry.{Entry}
 use Rattle.requests.specs.declared.rules.SoFar.{SoFar}
@@ -16,10 +16,6 @@ use Rattle.requests.specs.declared.rules.SoFar.{SoFar}
 abbrev pub none-yet : SoFar
 none-yet = record { arrival = 0; task = 0; next = replicate 16 0; from = replicate 16 0 }
 
--- "unknown task or frame"
-abbrev pub unknown : Table → Entry → Bool
-unknown table x = leb (table .tasks) (x .task) || leb (table .task (x .task) .count) (x .frame)
-
 -- "sorted by arrival and at equal arrivals by strictly rising task number"
 abbrev pub out-of-order : SoFar → Entry → Bool
 out-of-order b x = ltb (x .arrival) (b .arrival) || (eqb (x .arrival) (b .arrival) && ltb (x .task) (b .task))
@@ -27,7 +23,7 @@ out-of-order b x = ltb (x .arrival) (b .arrival) || (eqb (x .arrival) (b .arriva
 -- 10: "pad not zero, unknown task or frame, arrival too large, order broken"
 abbrev pub misplaced : Table → SoFar → Entry → Bool
 misplaced table b x =
-    not (eqb (x .pad) 0) || (unknown table x || (ltb last-arrival (x .arrival) || out-of-order b x))
+    not (eqb (x .pad) 0) || (no-frame table (x .task) (x .frame) || (ltb last-arrival (x .arrival) || out-of-order b x))
 
 -- 11: "next request has the wrong frame or comes too soon"
 abbrev pub out-of-turn : SoFar → Entry → Bool

@@ -6,7 +6,7 @@ ghost use Prim.Native.Nat.{_<_};
 ghost use Rattle.model.specs.Request.{Has-frame};
 ghost use Rattle.table.specs.Ready.{Ready};
 ghost use Rattle.table.specs.TableOf.{table-of};
-ghost use Rattle.requests.specs.Rules.{unknown, out-of-order, misplaced, out-of-turn, fault-of};
+ghost use Rattle.requests.specs.Rules.{out-of-order, misplaced, out-of-turn, fault-of};
 ghost use Rattle.requests.specs.Rules.{next-frame, soonest, after-of, Placed};
 
 // "arrivals 0 to 65,535"
@@ -21,17 +21,6 @@ pub struct SoFar {
     pub from: [u32; 16],
 }
 
-fn is_unknown(s: &[u8], plan: Plan, x: Entry) -> bool
-    requires { ⌜ Ready (now s) plan ⌝ }
-    ensures { λ r. ⌜ r ≡ unknown (table-of (now (s .entry))) x ⌝ }
-{
-    let task = x.task as usize;
-    if plan.tasks <= task {
-        return true;
-    }
-    table::frame::count_frames(s, plan, task) <= x.frame as usize
-}
-
 fn is_out_of_order(b: SoFar, x: Entry) -> bool
     ensures { λ r. ⌜ r ≡ out-of-order b x ⌝ }
 {
@@ -42,7 +31,8 @@ fn is_misplaced(s: &[u8], plan: Plan, b: SoFar, x: Entry) -> bool
     requires { ⌜ Ready (now s) plan ⌝ }
     ensures { λ r. ⌜ r ≡ misplaced (table-of (now (s .entry))) b x ⌝ }
 {
-    (x.pad != 0) | (is_unknown(s, plan, x) | ((LAST_ARRIVAL < x.arrival) | is_out_of_order(b, x)))
+    let unknown = table::frame::is_missing(s, plan, x.task as u64, x.frame as u64);
+    (x.pad != 0) | (unknown | ((LAST_ARRIVAL < x.arrival) | is_out_of_order(b, x)))
 }
 
 fn is_out_of_turn(b: SoFar, x: Entry) -> bool

@@ -1,13 +1,16 @@
 -- What a caller that has a table and its plan knows of each task.
 -- Assumes nothing.
+use mathlib.Core.Bool.{true}
 use mathlib.Core.Path.{_≡_, sym}
 use mathlib.Core.List.{List}
 use Prim.Native.Nat.{ℕ, _+_, _-_, _*_, _≤_, _<_}
 use native.Mathlib.Omega.{arith}
 use lib.ListN.{length, getD}
+use lib.Dec.{leb}
+use borrow.Author.Tests.{le-leb, lt-leb}
 use mir.Syntax.{w8}
 use mir.Val.{Fits}
-use Rattle.model.specs.Request.{Has-frame}
+use Rattle.model.specs.Request.{Has-frame, no-frame}
 use Rattle.model.specs.Task.{ProperTable}
 use Rattle.table.specs.Bytes.{size, record-of}
 use Rattle.table.specs.TableOf.{table-of, plan-of}
@@ -77,6 +80,16 @@ module _ {s : List ℕ} {plan : Plan} (ready : Ready s plan) where
           some = stands .some;
           few = stands .few;
         }
+
+  -- ---- the test whether a frame is there
+
+  pub missing-task : (k i : ℕ) → plan .tasks ≤ k → true ≡ no-frame (table-of s) k i
+  missing-task k i past = sym (rw (le-leb (table-of s .tasks) k (omega (arith, ready-tasks))))
+
+  pub missing-frame : (k i : ℕ) {count : ℕ} → k < plan .tasks → Frames (table-of s .task k) count
+      → leb count i ≡ no-frame (table-of s) k i
+  missing-frame k i there counted =
+      sym (rw (lt-leb (table-of s .tasks) k (omega (arith, ready-tasks)), counted .is))
 
   module _ {k i : ℕ} (has : Has-frame (table-of s) k i) where
     known : k < plan .tasks

@@ -1,8 +1,10 @@
-// One task of a good table by its number: where it stands, how many frames it has, and each frame's record.
+// One task of a good table by its number: where it stands, how many frames it has, whether it is there, and each
+// frame's record.
 use crate::plan::Plan;
 use crate::record::Record;
+ghost use mathlib.Core.Path.{_≡_};
 ghost use Prim.Native.Nat.{_<_};
-ghost use Rattle.model.specs.Request.{Has-frame};
+ghost use Rattle.model.specs.Request.{Has-frame, no-frame};
 ghost use Rattle.table.specs.TableOf.{table-of};
 ghost use Rattle.table.specs.Ready.{Ready, Frame-is, Frames, Stands-at};
 
@@ -33,6 +35,17 @@ pub fn count_frames(s: &[u8], plan: Plan, k: usize) -> usize
 {
     let place = place_of(s, plan, k);
     place.frames
+}
+
+// Whether the table has no task k, or the task no frame i.
+pub fn is_missing(s: &[u8], plan: Plan, k: u64, i: u64) -> bool
+    requires { ⌜ Ready (now s) plan ⌝ }
+    ensures { λ r. ⌜ r ≡ no-frame (table-of (now (s .entry))) k i ⌝ }
+{
+    if plan.tasks as u64 <= k {
+        return true;
+    }
+    count_frames(s, plan, k as usize) as u64 <= i
 }
 
 // Frame i of task k.

@@ -1,96 +1,73 @@
--- `respond_in` meets its contract: 9 for a task and for a frame that is not there, then 8, then the response.
+-- `respond_in` meets its contract: 9 for a frame that is not there, then 8, then the response.
 -- Assumes nothing.
 use mathlib.Core.Path.{ap, _∙_}
-use Prim.Native.Nat.{_<_}
-use native.Mathlib.Omega.{arith}
 use borrow.Author.Needs.{needs}
-use Rattle.model.specs.Request.{Has-frame}
-use Rattle.table.specs.TableOf.{table-of}
 use Rattle.table.proofs.ReadyLaws.{ready-read}
 use Rattle.desk.specs.Written.{reply-of}
 use Rattle.desk.specs.declared.Reply.the-variants.{Is, Refused}
-use Rattle.desk.proofs.AskLaws.{plan-room, plan-tasks}
-use Rattle.desk.proofs.ResponseLaws.{no-task-there, no-frame-there, frame-there, above-there, response-there}
+use Rattle.desk.proofs.AskLaws.{plan-room}
+use Rattle.desk.proofs.ResponseLaws.{no-such-frame, has-frame, some-above, response-answered}
 use Rattle.desk.proofs.priority.respond_in.Statement.{statement}
 use Rattle.desk.proofs.priority.respond_in.Tie as tie
 
--- what was asked, from after the plan was made
-abbrev asked : tie.After-make-plan → tie.Start
+-- what was asked, from where the frame was looked for
+abbrev asked : tie.After-is-missing → tie.Start
 asked c = c .before .before .before
 
--- no such task
-returns : tie.Need-returns
-returns c =
-    let entry = c .before .before .before in
-    ap Refused (c .refuse .ensures)
-    ∙ ap reply-of (no-task-there _ _ (entry .pre) (entry .args .task) (entry .args .frame) (search needs))
-
 make-plan-requires : tie.Need-make-plan-requires
-make-plan-requires c κs = plan-room _ _ (c .before .before .pre)
+make-plan-requires c κs = plan-room _ _ (c .before .pre)
 
-count-frames-requires : tie.Need-count-frames-requires
-count-frames-requires c κs =
-    let entry = asked c in
-    let tasks = plan-tasks _ _ (entry .pre) (c .make-plan .ensures) in
-    (ready-read _ _ (entry .pre) (c .make-plan .ensures), omega arith)
+is-missing-requires : tie.Need-is-missing-requires
+is-missing-requires c κs = ready-read _ _ (c .before .before .pre) (c .make-plan .ensures)
 
 -- no such frame
-returns-2 : tie.Need-returns-2
-returns-2 c =
-    let counted = c .before .before in
-    let entry = asked (counted .before) in
-    let frames = counted .count-frames .ensures in
-    ap Refused (c .refuse2 .ensures)
-    ∙ ap reply-of (no-frame-there _ _ (entry .pre) (entry .args .task) (entry .args .frame) (search needs) frames
-    (search needs))
-
--- the frame is there
-there : (c : tie.Else2) → let entry = asked (c .before .before) in
-    Has-frame (table-of (entry .args .s .now)) (entry .args .task) (entry .args .frame)
-there c =
-    let entry = asked (c .before .before) in
-    frame-there _ _ (entry .pre) (entry .args .task) (entry .args .frame) (search needs)
-    (c .before .count-frames .ensures) (search needs)
+returns : tie.Need-returns
+returns c =
+    let looked = c .before .before in
+    let entry = asked looked in
+    ap Refused (c .refuse .ensures)
+    ∙ ap reply-of (no-such-frame _ _ (entry .pre) (entry .args .task) (entry .args .frame)
+    (looked .is-missing .ensures) (c .before .if1 .taken))
 
 first-above-requires : tie.Need-first-above-requires
-first-above-requires c κs =
-    let entry = asked (c .before .before) in
-    plan-room _ _ (entry .pre) .0
+first-above-requires c κs = plan-room _ _ (asked (c .before) .pre) .0
 
 -- D above P
-returns-3 : tie.Need-returns-3
-returns-3 c =
+returns-2 : tie.Need-returns-2
+returns-2 c =
     let found = c .before .before in
-    let entry = asked (found .before .before .before) in
-    ap reply-of (above-there _ _ (entry .pre) (entry .args .task) (entry .args .frame) (there (found .before))
-    (found .first-above .ensures) (search needs))
+    let is-there = found .before in
+    let entry = asked (is-there .before) in
+    ap reply-of (some-above _ _ (entry .pre) (entry .args .task) (entry .args .frame)
+    (is-there .before .is-missing .ensures) (is-there .if1 .left) (found .first-above .ensures) (search needs))
 
 respond-requires : tie.Need-respond-requires
 respond-requires c κs =
-    let has = c .before .before .before in
-    let planned = has .before .before in
-    let entry = asked planned in
-    (ready-read _ _ (entry .pre) (planned .make-plan .ensures), there has)
+    let is-there = c .before .before .before in
+    let looked = is-there .before in
+    let entry = asked looked in (
+      ready-read _ _ (entry .pre) (looked .before .make-plan .ensures),
+      has-frame _ _ (entry .pre) _ _ (looked .is-missing .ensures) (is-there .if1 .left),
+    )
 
-returns-4 : tie.Need-returns-4
-returns-4 c =
+returns-3 : tie.Need-returns-3
+returns-3 c =
     let found = c .before .before .before in
-    let entry = asked (found .before .before .before) in
+    let is-there = found .before in
+    let entry = asked (is-there .before) in
     ap Is (c .respond .ensures .is)
-    ∙ ap reply-of (response-there _ _ (entry .pre) (entry .args .task) (entry .args .frame) (there (found .before))
-    (found .first-above .ensures) (search needs))
+    ∙ ap reply-of (response-answered _ _ (entry .pre) (entry .args .task) (entry .args .frame)
+    (is-there .before .is-missing .ensures) (is-there .if1 .left) (found .first-above .ensures) (search needs))
 
 pub respond-in-spec : {M : Type 1} → statement M
 respond-in-spec =
     tie.close
     (tie.spec
+    make-plan-requires
+    is-missing-requires
     (λ c κs. search needs)
     returns
-    make-plan-requires
-    count-frames-requires
-    (λ c κs. search needs)
-    returns-2
     first-above-requires
-    returns-3
+    returns-2
     respond-requires
-    returns-4)
+    returns-3)

@@ -7,10 +7,12 @@ use Rattle.requests.proofs.rules.is_misplaced.Tie as tie
 
 returns : tie.Need-returns
 returns c =
-    let at-unknown = c .before .before in
-    let entry = at-unknown .before .before .before in
-    misplaced-is (entry .pre) (entry .args .b) (entry .args .x) (at-unknown .is-unknown .ensures)
-    (c .is-out-of-order .ensures)
+    let at-missing = c .before .before .before in
+    let at-entry = at-missing .before .before .before in
+    let args = at-entry .before .args in
+    misplaced-is _ (args .b) (args .x) (at-missing .is-missing .ensures) (c .is-out-of-order .ensures)
 
 pub is-misplaced-spec : {M : Type 1} → statement M
-is-misplaced-spec = tie.close (tie.spec (λ c κs. search needs) (λ c κs. search needs) returns)
+is-misplaced-spec =
+    tie.close
+    (tie.spec (λ c. search needs) (λ c. search needs) (λ c κs. search needs) (λ c κs. search needs) returns)

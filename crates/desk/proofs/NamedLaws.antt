@@ -17,6 +17,7 @@ use Rattle.model.specs.Task as Table
 use Rattle.model.specs.Verdict.{horizon, closes, overloads, starts, overloaded-at, fits-at, Verdict, verdict}
 use Rattle.model.specs.Weave.{foremost, taken-by, next-at, weave}
 use Rattle.model.specs.Overload.{requests-by, overload-list}
+use Rattle.model.specs.Response.{value, settles, settled-at, response-by, peak-frame, share-of, higher-share, response}
 use Rattle.model.specs.Answer.{Answer, answered}
 use Rattle.model.proofs.WalkLaws.{walk, walk-is}
 use Rattle.model.specs.Request.{last-arrival}
@@ -34,12 +35,15 @@ use Rattle.requests.specs.Entry.{entry-of, bytes-to}
 use Rattle.requests.specs.Reader.{check-of}
 use Rattle.bench.specs.Rule.{first-late, first-left, next-in, tick-of, run-of}
 use Rattle.bench.specs.Loaded.{slots-of, loaded, run-whole, end-of}
+use Rattle.response.specs.Deadlines.{first-above}
 use Rattle.overload.specs.Place.{placed}
 use Rattle.desk.specs.Questions.{on-table, demand-asked, verdict-asked, replay-asked}
 use Rattle.desk.specs.Overload.{on-overload, list-at, overload-asked}
-use Rattle.desk.specs.Tables.{A, B, B-list, K7-task, four, twenty}
-use Rattle.desk.specs.Named.{Question, demand-of, verdict-on, replay-with, overload-into, left-by, Said, said, Row, named}
-use Rattle.desk.proofs.SameLaws.{same-int, same-list, same-verdict, same-replay, same-answer, same-written}
+use Rattle.desk.specs.Response.{response-asked}
+use Rattle.desk.specs.Tables.{A, B, B-list, F, K7-task, four, twenty}
+use Rattle.desk.specs.Asked.{Question, demand-of, verdict-on, replay-with, overload-into, response-of, first-values, left-by, Said, values, said, Row}
+use Rattle.desk.specs.Named.{named}
+use Rattle.desk.proofs.SameLaws.{same-int, same-list, same-verdict, same-replay, same-response, same-answer, same-written}
 use Rattle.desk.proofs.SameSaid.{same-left, same-said, same-said-is}
 
 -- the overload list, where the walk gives the verdict
@@ -53,6 +57,8 @@ quick s (demand-of task t) = demand-asked s task t
 quick s verdict-on = on-table s (λ table. answered (walk table horizon 1))
 quick s (replay-with list) = replay-asked s list
 quick s (overload-into buffer place) = left-by buffer place (quick-list s buffer place)
+quick s (response-of task frame) = response-asked s task frame
+quick s (first-values many task frame) = values s many task frame
 
 is-byte : ℕ → Bool
 is-byte x = ltb x 256
@@ -84,6 +90,8 @@ module _ (s : List ℕ) (bytes : T (every is-byte s)) where
   quick-is (overload-into buffer place) =
       ap (left-by buffer place)
       (walked (λ table v. on-overload v (λ t. placed buffer place (list-at table t))))
+  quick-is (response-of task frame) = refl
+  quick-is (first-values many task frame) = refl
 
 by-walk : Row → Bool
 by-walk row = same-said (row .question) (quick (row .bytes) (row .question)) (row .says)
@@ -107,9 +115,11 @@ unfolding named A B right by-walk quick is-byte every same-said same-answer same
     loaded slots-of tick-of first-late first-left next-in pick sooner
     K7-task four twenty same-written same-left quick-list placed overload-list weave next-at taken-by foremost
     requests-by up-to-last bytes-to
+    F same-response response-asked first-above response response-by settles settled-at value higher-share share-of
+    peak-frame
 all-right = tt
 
--- K1 to K7, and the list of four requests
+-- K1 to K9, and the list of four requests
 pub named-right : (i : ℕ) → i < length named → (other : Row)
     → said (getD named i other .bytes) (getD named i other .question) ≡ getD named i other .says
 named-right i below other = right-is (getD named i other) (every-at right named other all-right i below)

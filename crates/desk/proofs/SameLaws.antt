@@ -9,6 +9,7 @@ use lib.IntN.{ℤ, pos, negsuc}
 use Rattle.laws.proofs.Every.{both-left, both-right}
 use Rattle.model.specs.Verdict.{Verdict, overloaded, fits, undecided}
 use Rattle.model.specs.Replay.{Replayed, missed, all-met}
+use Rattle.model.specs.Response.{Response, on-time, late}
 use Rattle.model.specs.Answer.{Answer, answered, refused}
 use Rattle.overload.specs.declared.write.Written.{Written}
 use Rattle.overload.specs.declared.write.Written.the-variants.{Bytes, Refused}
@@ -87,6 +88,21 @@ same-replay-is (missed t i) (missed u j) h =
 same-replay-is (all-met t) (all-met u) h = ap all-met (eqb→eq t u h)
 same-replay-is (missed t i) (all-met u) h = absurd h
 same-replay-is (all-met t) (missed u j) h = absurd h
+
+unfoldable pub same-response : Response → Response → Bool
+same-response (on-time v n) (on-time w m) = eqb v w && eqb n m
+same-response (late v n) (late w m) = eqb v w && eqb n m
+same-response (on-time v n) (late w m) = false
+same-response (late v n) (on-time w m) = false
+
+pub same-response-is : (a b : Response) → T (same-response a b) → a ≡ b
+unfolding same-response
+same-response-is (on-time v n) (on-time w m) h =
+    ap₂ on-time (eqb→eq v w (both-left (eqb v w) (eqb n m) h)) (eqb→eq n m (both-right (eqb v w) (eqb n m) h))
+same-response-is (late v n) (late w m) h =
+    ap₂ late (eqb→eq v w (both-left (eqb v w) (eqb n m) h)) (eqb→eq n m (both-right (eqb v w) (eqb n m) h))
+same-response-is (on-time v n) (late w m) h = absurd h
+same-response-is (late v n) (on-time w m) h = absurd h
 
 unfoldable pub same-answer : {A : Type 0} → (A → A → Bool) → Answer A → Answer A → Bool
 same-answer same (answered a) (answered b) = same a b

@@ -24,7 +24,8 @@ use Rattle.desk.specs.Overload.{overload-asked}
 use Rattle.desk.specs.Written.{refusal}
 use Rattle.desk.specs.OverloadMeaning.{Overloaded-at, Not-overloaded, No-room, Refused-with, table-bad, refuses-13, refuses-12, Writes, Holds-list, Untouched}
 use Rattle.desk.specs.Tables.{A, B, B-list, twenty}
-use Rattle.desk.specs.Named.{overload-into, Leaves, said, named}
+use Rattle.desk.specs.Asked.{overload-into, Leaves, said}
+use Rattle.desk.specs.Named.{named}
 use Rattle.desk.proofs.NamedLaws.{named-right, no-row, A-bytes, B-bytes}
 use Rattle.desk.proofs.WritingExact.{over-judged, bad-unwritten}
 use Rattle.desk.proofs.WritingLeft.{wrote-leaves}

@@ -3,6 +3,7 @@ pub mod Overload
 pub mod Response
 pub mod Written
 pub mod Tables
+pub mod Asked
 pub mod Named
 pub mod Refusals
 pub mod OverloadMeaning

@@ -5,55 +5,14 @@ use Prim.Native.Nat.{ℕ}
 use lib.IntN.{pos, negsuc}
 use lib.ListN.{replicate}
 use Rattle.model.specs.Verdict.{Verdict, overloaded, fits}
-use Rattle.model.specs.Replay.{Replayed, missed}
+use Rattle.model.specs.Replay.{missed}
+use Rattle.model.specs.Response.{on-time}
 use Rattle.model.specs.Answer.{Answer, answered, refused}
 use Rattle.overload.specs.declared.write.Written.{Written}
 use Rattle.overload.specs.declared.write.Written.the-variants.{Bytes, Refused}
-use Rattle.overload.specs.Place.{written-of, buffer-after}
-use Rattle.desk.specs.Questions.{demand-asked, verdict-asked, replay-asked}
-use Rattle.desk.specs.Overload.{overload-asked}
 use Rattle.desk.specs.Written.{refusal}
-use Rattle.desk.specs.Tables.{sporadic, A, B, B-list, K7-task, four, twenty}
-
--- ---- what is asked, and what is said
-
-pub data Question : Type 0 where
-  demand-of : (task t : ℕ) → Question
-  verdict-on : Question
-  replay-with : (list : List ℕ) → Question
-  overload-into : (buffer : List ℕ) (place : ℕ) → Question
-
--- a writer's answer; the bytes that it was to write, or its refusal; and the buffer as it leaves it
-pub record Leaves : Type 0 where
-  pub answer : Written
-  pub wrote : Answer (List ℕ)
-  pub buffer : List ℕ
-
--- all three follow from what is to be written
-abbrev pub left-by : List ℕ → ℕ → Answer (List ℕ) → Leaves
-left-by buffer place list =
-    record { answer = written-of list; wrote = list; buffer = buffer-after buffer place list }
-
--- the answers that a question may get
-abbrev pub Said : Question → Type 0
-Said (demand-of task t) = Answer ℕ
-Said verdict-on = Answer Verdict
-Said (replay-with list) = Answer Replayed
-Said (overload-into buffer place) = Leaves
-
--- what the rules say
-abbrev pub said : List ℕ → (q : Question) → Said q
-said s (demand-of task t) = demand-asked s task t
-said s verdict-on = verdict-asked s
-said s (replay-with list) = replay-asked s list
-said s (overload-into buffer place) = left-by buffer place (overload-asked s buffer place)
-
-pub record Row : Type 0 where
-  pub bytes : List ℕ
-  pub question : Question
-  pub says : Said question
-
--- ---- the rows
+use Rattle.desk.specs.Tables.{sporadic, A, B, B-list, F, K7-task, four, twenty}
+use Rattle.desk.specs.Asked.{demand-of, verdict-on, replay-with, overload-into, response-of, first-values, Row}
 
 abbrev of-A : ℕ → ℕ → Row
 of-A t n = record { bytes = A; question = demand-of 0 t; says = answered n }
@@ -68,6 +27,10 @@ writes s buffer place answer list after =
       question = overload-into buffer place;
       says = record { answer = answer; wrote = list; buffer = after };
     }
+
+abbrev on-F : ℕ → ℕ → ℕ → ℕ → Row
+on-F task frame value rounds =
+    record { bytes = F; question = response-of task frame; says = answered (on-time value rounds) }
 
 unfoldable pub named : List Row
 named =
@@ -93,4 +56,10 @@ named =
     -- K7's task with (2,5,10) as task 1: overloaded at 5, margin -1, starts all 0; the list has four requests
     ∷ judged (K7-task ++ sporadic 1 2 5 10) (overloaded 5 (negsuc 0) (replicate 16 0))
     ∷ writes (K7-task ++ sporadic 1 2 5 10) (replicate 32 255) 0 (Bytes 32) (answered four) four
+    -- K8 F, peak frames: responses 1, 3, 8, 14, 32; task 3 frame 0: 4 rounds; task 4 frame 0: 6 rounds
+    ∷ on-F 0 0 1 0 ∷ on-F 1 0 3 1 ∷ on-F 2 0 8 3 ∷ on-F 3 0 14 4 ∷ on-F 4 0 32 6
+    -- "Task 3 frame 0 goes 2, 8, 10, 13, 14"
+    ∷ record { bytes = F; question = first-values 5 3 0; says = 2 ∷ 8 ∷ 10 ∷ 13 ∷ 14 ∷ [] }
+    -- K9 F, task 3 frame 1: response 9, 2 rounds
+    ∷ on-F 3 1 9 2
     ∷ []

@@ -19,6 +19,15 @@ sporadic task e d p = rec task 1 e d p
 unfoldable pub B : List ℕ
 B = A ++ sporadic 1 1 2 10
 
+-- "F is from 003, table 3.2, kind 2, D = P: (1) at 3; (2) at 9; (3,1) at 18; (2,1) at 20; (6,3) at 60."
+abbrev pub multi : ℕ → ℕ → ℕ → List ℕ
+multi task e p = rec task 2 e p p
+
+unfoldable pub F : List ℕ
+F =
+    multi 0 1 3 ++ multi 1 2 9 ++ multi 2 3 18 ++ multi 2 1 18 ++ multi 3 2 20 ++ multi 3 1 20
+    ++ multi 4 6 60 ++ multi 4 3 60
+
 -- K7's task: "kind 3, E 2,1,2; D 2,20,2; P 2,1,10"
 unfoldable pub K7-task : List ℕ
 K7-task = rec 0 3 2 2 2 ++ rec 0 3 1 20 1 ++ rec 0 3 2 2 10

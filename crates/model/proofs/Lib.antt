@@ -31,3 +31,4 @@ pub mod ValueLaws
 pub mod SettleLaws
 pub mod ResponseLaws
 pub mod ShareLaws
+pub mod ResponseEdges

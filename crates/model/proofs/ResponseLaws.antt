@@ -16,7 +16,7 @@ use Rattle.model.proofs.SettleLaws.{settles-past, settles-again, settle
 -- ---- what the response says
 
 -- a value passes D soon: the one before is within it, and is at least E and its number
-late-few : (share : ℕ → ℕ) (e d n : ℕ) → Rises-to share e n → ((m : ℕ) → m < n → value share e m ≤ d)
+pub late-few : (share : ℕ → ℕ) (e d n : ℕ) → Rises-to share e n → ((m : ℕ) → m < n → value share e m ≤ d)
     → n ≤ suc d - e
 late-few share e d zero rises within = omega arith
 late-few share e d (suc n) rises within =

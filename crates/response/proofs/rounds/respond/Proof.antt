@@ -19,9 +19,6 @@ Inv-loop s plan k i run end value₀ round₀ value round = Rounds (higher-share
 abbrev μ-loop : tie.MeasureT-loop
 μ-loop s plan k i run end value₀ round₀ value round = suc end - value
 
-loop-holds : tie.Need-loop-holds Inv-loop μ-loop
-loop-holds c = rounds-start _ _ _
-
 add-shares-requires : tie.Need-add-shares-requires Inv-loop μ-loop
 add-shares-requires c κs =
     let read = c .before .before .before in
@@ -48,10 +45,7 @@ loop-less : tie.Need-loop-less Inv-loop μ-loop
 loop-less c =
     let at-loop = c .before .before .before in
     let share = c .before .add-shares .ensures in
-    omega (
-      arith,
-      rounds-rise (at-loop .loop .inv) (share .is) (search needs) (higher-never-falls _ _) (c .if1 .left),
-    )
+    omega (arith, rounds-rise (at-loop .loop .inv) (share .is) (search needs) (higher-never-falls _ _) (c .if1 .left))
 
 loop-again : tie.Need-loop-again Inv-loop μ-loop
 loop-again c =
@@ -75,7 +69,7 @@ respond-spec =
     (λ c κs. search needs)
     (λ c. search needs)
     (λ c. search needs)
-    loop-holds
+    (λ c. rounds-start _ _ _)
     add-shares-requires
     add-next
     returns

@@ -16,7 +16,8 @@ abbrev pub refuse-at : {A : Type 0} → Found → ℕ → Answer A → Answer A
 refuse-at (at index) number rest = refused number index
 refuse-at nowhere number rest = rest
 
--- 9: "no such task or frame"; 8: "response asked and some frame of the table has D above its P", carrying the "first such record"
+-- 9: "no such task or frame"; 8: "response asked and some frame of the table has D above its P", carrying the "first
+-- such record"
 unfoldable pub response-asked : List ℕ → ℕ → ℕ → Answer Response
 response-asked s k i =
     on-table s (λ table. refuse-if (no-frame table k i) 9

@@ -1,6 +1,6 @@
 // The desk: each question on raw bytes, answered or refused. Nothing here requires anything of its caller.
-// An answer is the value (`Is`; for bytes `Table`, `Legal` or, written, `Bytes`), or `Refused` with the refusal's number
-// and record index.
+// An answer is the value (`Is`; for bytes `Table`, `Legal` or, written, `Bytes`), or `Refused` with the refusal's
+// number and record index.
 mod good;
 mod lists;
 mod priority;

@@ -1,12 +1,12 @@
 -- The edges of the rule, as laws: E above D, nothing above the frame, and a value equal to D that is repeated or grows.
 -- Assumes nothing.
 use mathlib.Core.Path.{_≡_, refl, sym, _∙_, ap}
-use Prim.Native.Nat.{ℕ, zero, suc, _+_, _≤_, _<_}
+use Prim.Native.Nat.{ℕ, suc, _≤_, _<_}
 use native.Mathlib.Omega.{arith}
 use Rattle.laws.proofs.SumLaws.{sum-zero}
 use Rattle.model.specs.Task.{Table}
 use Rattle.model.specs.Response.{value, on-time, late, response-by, higher-share, response}
-use Rattle.model.specs.ResponseMeaning.{Never-falls, Rises-to, On-time, Late}
+use Rattle.model.specs.ResponseMeaning.{Never-falls, Rises-to}
 use Rattle.model.proofs.ValueLaws.{value-first, value-next, value-stays, value-mono, value-climbs}
 use Rattle.model.proofs.ResponseLaws.{late-few, says-only}
 

@@ -38,8 +38,8 @@ catches-place table b x =
     (catches-frame table (x .task) (x .frame))
     (catches-or (catches-lt last-arrival _) (catches-or (catches-lt _ _) (catches-when _ _ (catches-lt _ _))))))
   where
-    place : x .pad ≡ 0 → Has-frame table (x .task) (x .frame) → x .arrival ≤ last-arrival → b .arrival ≤ x .arrival → (x .arrival ≡ b .arrival → b .task ≤ x .task) →
-        Place-kept table b x
+    place : x .pad ≡ 0 → Has-frame table (x .task) (x .frame) → x .arrival ≤ last-arrival → b .arrival ≤ x .arrival
+        → (x .arrival ≡ b .arrival → b .task ≤ x .task) → Place-kept table b x
     place pad known near not-before rising =
         record {
           pad = pad;

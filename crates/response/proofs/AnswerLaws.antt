@@ -9,8 +9,8 @@ use Rattle.response.specs.declared.rounds.Response.the-variants.{OnTime,
 use Rattle.response.specs.Written.{response-of, Responds}
 use Rattle.response.proofs.RoundLaws.{Rounds, rounds-late, rounds-on-time}
 
-module _ (table : Table) (k i : ℕ) {run end v n : ℕ} (run-is : run ≡ table .task k .E i) (end-is : end ≡ table .task k .D i)
-    (rounds : Rounds (higher-share table k) run end v n) where
+module _ (table : Table) (k i : ℕ) {run end v n : ℕ} (run-is : run ≡ table .task k .E i)
+    (end-is : end ≡ table .task k .D i) (rounds : Rounds (higher-share table k) run end v n) where
   answer : response-by (higher-share table k) run end ≡ response table k i
   unfolding response
   answer = rw (run-is, end-is)

@@ -1,13 +1,13 @@
 -- The higher tasks' shares: one as the walk from the peak frame gives it, and all of them added in order.
 -- Assumes nothing.
 use mathlib.Core.Bool.{false}
-use mathlib.Core.Path.{_≡_, _∙_, ap}
-use Prim.Native.Nat.{ℕ, _*_, _≤_, _<_}
+use mathlib.Core.Path.{_∙_, ap}
+use Prim.Native.Nat.{ℕ, _*_, _≤_}
 use native.Mathlib.Omega.{arith}
 use Rattle.laws.proofs.Adding.{Adding, adding-room, adding-end}
 use Rattle.model.specs.Task.{Task, Table, Proper}
 use Rattle.model.specs.Demand.{counted}
-use Rattle.model.specs.Response.{peak-frame, share-of, higher-share}
+use Rattle.model.specs.Response.{share-of, higher-share}
 use Rattle.model.proofs.DemandLaws.{work-moves}
 use Rattle.model.proofs.ShareLaws.{peak-lowest}
 use Rattle.sums.specs.declared.peak.Peak.{Peak}

@@ -1,10 +1,7 @@
 -- `share_of` meets its contract: the sum from the peak frame, which is the start of the most work in one tick.
 -- Assumes nothing.
-use Prim.Native.Nat.{_<_}
 use native.Mathlib.Omega.{arith}
 use borrow.Author.Needs.{needs}
-use Rattle.model.specs.Task.{Proper}
-use Rattle.table.specs.TableOf.{table-of}
 use Rattle.table.proofs.ReadyLaws.{ready-here, ready-proper}
 use Rattle.response.proofs.ShareLaws.{share-counted}
 use Rattle.response.proofs.share.share_of.Statement.{statement}

@@ -2,7 +2,6 @@
 -- Assumes nothing.
 use Prim.Native.Nat.{_<_}
 use native.Mathlib.Omega.{arith}
-use borrow.Author.Needs.{needs}
 use Rattle.table.proofs.ReadyLaws.{ready-tasks, place-frames}
 use Rattle.sums.proofs.PeakReady.{task-stands, task-counted}
 use Rattle.sums.proofs.total.count_of.Statement.{statement}

@@ -21,6 +21,7 @@ pub enum Kind {
     Replay,
     Overload,
     OverloadReplay,
+    Response,
 }
 
 // The question that a word names.
@@ -76,6 +77,9 @@ fn kind_of(w: &[u8]) -> Known {
     if text::same(w, b"overload-replay") {
         return Known::Is(Kind::OverloadReplay);
     }
+    if text::same(w, b"response") {
+        return Known::Is(Kind::Response);
+    }
     Known::Not
 }
 
@@ -86,6 +90,7 @@ fn numbers_of(kind: Kind) -> usize {
         Kind::Demand => 2,
         Kind::Work => 2,
         Kind::Overload => 2,
+        Kind::Response => 2,
         _ => 0,
     }
 }

@@ -4,6 +4,7 @@ use desk::Amount;
 use desk::Ending;
 use desk::Judged;
 use desk::Judgement;
+use desk::Reply;
 use desk::Spare;
 use desk::Window;
 use out::say;
@@ -12,6 +13,7 @@ use out::say_refusal;
 use out::say_signed;
 use overload::write::Written;
 use requests::reader::Checked;
+use response::rounds::Response;
 use table::reader::Reading;
 use text::wide;
 use verdict::judge::Verdict;
@@ -152,5 +154,29 @@ pub fn say_written(w: Written) {
             say_number(n as u64);
         }
         Written::Refused(no) => say_refusal(no),
+    }
+}
+
+fn say_response(r: Response) {
+    match r {
+        Response::OnTime { value, rounds } => {
+            say(b"on-time value=");
+            say_number(value);
+            say(b" rounds=");
+            say_number(rounds);
+        }
+        Response::Late { value, round } => {
+            say(b"late value=");
+            say_number(value);
+            say(b" round=");
+            say_number(round);
+        }
+    }
+}
+
+pub fn say_reply(r: Reply) {
+    match r {
+        Reply::Is(response) => say_response(response),
+        Reply::Refused(no) => say_refusal(no),
     }
 }

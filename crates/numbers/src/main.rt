@@ -27,6 +27,7 @@ fn answer(kind: Kind, first: u64, second: u64, table: &[u8], list: &[u8]) {
         Kind::Replay => say::say_ending(desk::replay(table, list)),
         Kind::Overload => writing::write_into(table, first, second),
         Kind::OverloadReplay => writing::write_and_replay(table),
+        Kind::Response => say::say_reply(desk::respond(table, first, second)),
     }
 }
 

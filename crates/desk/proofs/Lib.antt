@@ -13,3 +13,4 @@ pub mod OverloadReplay
 pub mod WritingExample
 pub mod ReplayLaws
 pub mod ResponseLaws
+pub mod ResponseExact

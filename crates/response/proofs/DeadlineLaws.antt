@@ -1,5 +1,5 @@
--- The search for the first record with D above its P: a law for its hit, its turn and its end, and what its answer
--- tells.
+-- The search for the first record with D above its P: a law for its hit, its turn and its end, what its answer tells,
+-- and that it finds exactly that record, said of the records' numbers.
 -- Assumes nothing.
 use mathlib.Core.Bool.{true, false}
 use mathlib.Core.Path.{_≡_, ap, subst}
@@ -7,10 +7,10 @@ use mathlib.Core.List.{List}
 use Prim.Native.Nat.{ℕ, _+_, _≤_, _<_}
 use lib.Dec.{ltb}
 use native.Mathlib.Omega.{arith}
-use borrow.Author.Tests.{lt-ltb, le-ltb}
-use Rattle.laws.specs.Search.{at, nowhere, place-or}
+use borrow.Author.Tests.{lt-ltb, le-ltb, ltb-true, ltb-false}
+use Rattle.laws.specs.Search.{Found, at, nowhere, least-from, place-or}
 use Rattle.laws.proofs.PlaceLaws.{least-at, least-none}
-use Rattle.laws.proofs.SearchLaws.{Seeking, seeking-hit, seeking-on, seeking-end}
+use Rattle.laws.proofs.SearchLaws.{Right, least-right, least-is, none-is, Seeking, seeking-hit, seeking-on, seeking-end}
 use Rattle.table.specs.Bytes.{record-of}
 use Rattle.table.specs.declared.record.Record.{Record}
 use Rattle.response.specs.Deadlines.{above, first-above}
@@ -40,3 +40,55 @@ module _ (s : List ℕ) (n index : ℕ) (answer : index ≡ place-or n (first-ab
   pub above-none : n ≤ index → first-above n s ≡ nowhere
   unfolding first-above
   above-none = least-none (above s) n index answer
+
+-- ---- exactly the first record
+
+-- record i is the first of n records that has "D above its P"
+pub record First-above (s : List ℕ) (n i : ℕ) : Type 0 where
+  pub inside : i < n
+  pub above : record-of s i .p < record-of s i .d
+  pub first : (j : ℕ) → j < i → record-of s j .d ≤ record-of s j .p
+
+-- none of them has
+abbrev pub None-above : List ℕ → ℕ → Type 0
+None-above s n = (j : ℕ) → j < n → record-of s j .d ≤ record-of s j .p
+
+-- what the search may answer
+abbrev pub Above-told : List ℕ → ℕ → Found → Type 0
+Above-told s n (at i) = First-above s n i
+Above-told s n nowhere = None-above s n
+
+module _ (s : List ℕ) (n : ℕ) where
+  not-above : (j : ℕ) → record-of s j .d ≤ record-of s j .p → above s j ≡ false
+  not-above j within = le-ltb _ _ within
+
+  is-within : (j : ℕ) → above s j ≡ false → record-of s j .d ≤ record-of s j .p
+  is-within j e = ltb-false _ _ e
+
+  pub first-above-is : {i : ℕ} → First-above s n i → first-above n s ≡ at i
+  unfolding first-above
+  first-above-is {i} it =
+      least-is (above s) n 0 i
+      (record {
+        low = omega arith;
+        high = omega (arith, it .inside);
+        passes = lt-ltb _ _ (it .above);
+        first = λ j low less. not-above j (it .first j less);
+      })
+
+  pub none-above-is : None-above s n → first-above n s ≡ nowhere
+  unfolding first-above
+  none-above-is none = none-is (above s) n 0 (λ j low less. not-above j (none j (omega arith)))
+
+  pub above-told : Above-told s n (first-above n s)
+  unfolding first-above
+  above-told = told (least-from (above s) n 0) (least-right (above s) n 0)
+    where
+      told : (found : Found) → Right (above s) n 0 found → Above-told s n found
+      told (at i) l =
+          record {
+            inside = omega (arith, l .high);
+            above = ltb-true _ _ (l .passes);
+            first = λ j less. is-within j (l .first j (omega arith) less);
+          }
+      told nowhere none = λ j less. is-within j (none j (omega arith) (omega arith))

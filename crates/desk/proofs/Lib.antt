@@ -14,3 +14,4 @@ pub mod WritingExample
 pub mod ReplayLaws
 pub mod ResponseLaws
 pub mod ResponseExact
+pub mod ResponseExample

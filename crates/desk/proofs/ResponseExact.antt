@@ -1,5 +1,5 @@
--- The response, exactly: it is answered where the frame is there and no D is above its P, it is the one answer that says
--- what document 01 says, and it is refused exactly where the document names that refusal.
+-- The response, exactly: it is answered where the frame is there and no D is above its P, with the one answer that says
+-- what document 01 says, and refused exactly where the document names that refusal.
 -- Assumes nothing.
 use mathlib.Core.Bool.{Bool, true, false}
 use mathlib.Core.Path.{_≡_, refl, sym, ap, _∙_}

@@ -8,11 +8,10 @@ use Prim.Native.Nat.{ℕ}
 use Rattle.laws.specs.Search.{Found, at, nowhere}
 use Rattle.laws.proofs.Tests.{kept, broken}
 use Rattle.model.specs.Request.{no-frame}
-use Rattle.model.specs.Response.{Response, response, higher-share}
+use Rattle.model.specs.Response.{Response, response}
 use Rattle.model.specs.Answer.{answered, refused}
 use Rattle.model.proofs.FrameLaws.{catches-frame}
-use Rattle.model.proofs.ResponseLaws.{says-only}
-use Rattle.model.proofs.ShareLaws.{response-right}
+use Rattle.model.proofs.ShareLaws.{response-right, response-only}
 use Rattle.table.specs.declared.reader.Reading.{Reading}
 use Rattle.table.specs.declared.reader.Reading.the-variants as reading
 use Rattle.table.specs.Bytes.{records}
@@ -50,10 +49,9 @@ module _ (s : List ℕ) (k i : ℕ) where
 
   -- whatever says of the frame what the document says is the answer
   pub responds-only : (r : Response) → Responds s k i r → response-asked s k i ≡ answered r
-  unfolding response
   responds-only r responds =
       frame-answered (responds .asks) (responds .within)
-      ∙ ap answered (sym (says-only (higher-share (table-of s) k) _ _ r (responds .says)))
+      ∙ ap answered (sym (response-only (table-of s) k i r (responds .says)))
 
   -- ---- and back
 

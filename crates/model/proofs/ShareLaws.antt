@@ -12,11 +12,11 @@ use Rattle.laws.proofs.SumLaws.{gate, sum-mono, greatest-ge}
 use Rattle.laws.proofs.PeakLaws.{peaked-lowest, peak-of, first-greatest-cong}
 use Rattle.model.specs.Task.{Task, Table}
 use Rattle.model.specs.Demand.{frame, offset, counted, lowest}
-use Rattle.model.specs.Response.{peak-frame, share-of, higher-share, response}
+use Rattle.model.specs.Response.{Response, peak-frame, share-of, higher-share, response}
 use Rattle.model.specs.ResponseMeaning.{Never-falls, Says, Peak}
 use Rattle.model.proofs.CyclicLaws.{Moves, counted-zero, counted-on}
 use Rattle.model.proofs.DemandLaws.{counted-below, counted-mono}
-use Rattle.model.proofs.ResponseLaws.{response-says}
+use Rattle.model.proofs.ResponseLaws.{response-says, says-only}
 
 -- ---- the share
 
@@ -42,6 +42,12 @@ pub response-right : (table : Table) (k i : ℕ)
     → Says (higher-share table k) (table .task k .E i) (table .task k .D i) (response table k i)
 unfolding response
 response-right table k i = response-says (higher-never-falls table k) (table .task k .E i) (table .task k .D i)
+
+-- and whatever says that is the response
+pub response-only : (table : Table) (k i : ℕ) (r : Response)
+    → Says (higher-share table k) (table .task k .E i) (table .task k .D i) r → r ≡ response table k i
+unfolding response
+response-only table k i = says-only (higher-share table k) (table .task k .E i) (table .task k .D i)
 
 -- ---- the peak frame
 

@@ -19,10 +19,10 @@ use Rattle.table.specs.Reader.{reading-of}
 use Rattle.table.specs.TableOf.{table-of}
 use Rattle.table.specs.WellFormed.{WellFormed}
 use Rattle.table.proofs.Exact.{read-good, good-read, read-refused, refused-read}
-use Rattle.response.specs.Deadlines.{first-above}
+use Rattle.response.specs.Deadlines.{first-above, Within-P}
 use Rattle.response.proofs.DeadlineLaws.{Above-told, first-above-is, none-above-is, above-told}
 use Rattle.desk.specs.Response.{refuse-at, response-asked}
-use Rattle.desk.specs.ResponseMeaning.{Asks-frame, Within-P, Refused-with, table-bad, refuses-9, refuses-8, Responds, Told}
+use Rattle.desk.specs.ResponseMeaning.{Asks-frame, Refused-with, table-bad, refuses-9, refuses-8, Responds, Told}
 
 module _ (s : List ℕ) (k i : ℕ) where
   -- ---- from the bytes to the answer
@@ -45,7 +45,7 @@ module _ (s : List ℕ) (k i : ℕ) where
       rw (good-read s (gone .table-good), broken (catches-frame (table-of s) k i) (gone .none))
   bad-unanswered (refuses-8 high) =
       asks-response (high .asks)
-      ∙ rw (first-above-is s (records s) (record { inside = high .inside; above = high .above; first = high .first }))
+      ∙ rw (first-above-is s (records s) (high .first))
 
   -- whatever says of the frame what the document says is the answer
   pub responds-only : (r : Response) → Responds s k i r → response-asked s k i ≡ answered r
@@ -60,7 +60,7 @@ module _ (s : List ℕ) (k i : ℕ) where
 
   found-told : Asks-frame s k i → (found : Found) → Above-told s (records s) found → Told s k i (response-asked s k i)
   found-told asks (at index) it =
-      bad-told (refuses-8 (record { asks = asks; inside = it .inside; above = it .above; first = it .first }))
+      bad-told (refuses-8 (record { asks = asks; first = it }))
   found-told asks nowhere within =
       rw (frame-answered asks within)
       (record { asks = asks; within = within; says = response-right (table-of s) k i })

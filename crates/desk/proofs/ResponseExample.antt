@@ -10,8 +10,9 @@ use Rattle.model.specs.Response.{on-time}
 use Rattle.model.specs.Answer.{answered, refused}
 use Rattle.table.specs.Bytes.{records, record-of}
 use Rattle.table.specs.TableOf.{records-of, task-of}
+use Rattle.response.specs.Deadlines.{Within-P}
 use Rattle.desk.specs.Response.{response-asked}
-use Rattle.desk.specs.ResponseMeaning.{Asks-frame, No-frame, Within-P, Above-P, refuses-9, refuses-8, Responds, Told}
+use Rattle.desk.specs.ResponseMeaning.{Asks-frame, No-frame, Above-P, refuses-9, refuses-8, Responds, Told}
 use Rattle.desk.specs.Tables.{A, F}
 use Rattle.desk.specs.Named.{named}
 use Rattle.desk.proofs.NamedLaws.{named-right, no-row}
@@ -61,7 +62,7 @@ A-within (suc (suc j)) less = absurd (omega arith)
 
 pub A-above : Above-P A 0 0 2
 unfolding A record-of
-A-above = record { asks = A-asks; inside = lit< tt; above = lit< tt; first = A-within }
+A-above = record { asks = A-asks; first = record { inside = lit< tt; above = lit< tt; first = A-within } }
 
 pub A-unanswered : response-asked A 0 0 ≡ refused 8 2
 A-unanswered = bad-unanswered A 0 0 (refuses-8 A-above)

@@ -1,16 +1,17 @@
 -- When a response is answered, what it says, and which refusal is given else, said of the bytes alone: document 01,
 -- "Response of a frame" and "When the desk says no", 9 and 8.
 -- Assumes nothing.
-use Prim.Native.Nat.{ℕ, _≤_, _<_}
+use Prim.Native.Nat.{ℕ}
 use mathlib.Core.List.{List}
 use Rattle.model.specs.Request.{Has-frame}
 use Rattle.model.specs.Response.{Response, higher-share}
 use Rattle.model.specs.ResponseMeaning.{Says}
 use Rattle.model.specs.Answer.{Answer, answered, refused}
-use Rattle.table.specs.Bytes.{records, record-of}
+use Rattle.table.specs.Bytes.{records}
 use Rattle.table.specs.TableOf.{table-of}
 use Rattle.table.specs.WellFormed.{WellFormed}
 use Rattle.table.specs.Refusals as Table
+use Rattle.response.specs.Deadlines.{Within-P, First-above}
 
 -- the bytes are a table that has a task k with a frame i
 pub record Asks-frame (s : List ℕ) (k i : ℕ) : Type 0 where
@@ -22,16 +23,10 @@ pub record No-frame (s : List ℕ) (k i : ℕ) : Type 0 where
   pub table-good : WellFormed s
   pub none : Has-frame (table-of s) k i → ⊥
 
--- of the first n records none has "D above its P"
-abbrev pub Within-P : List ℕ → ℕ → Type 0
-Within-P s n = (j : ℕ) → j < n → record-of s j .d ≤ record-of s j .p
-
--- 8: "some frame of the table has D above its P": record `index`, the "first such record"
+-- 8: "some frame of the table has D above its P", and record `index` is the "first such record"
 pub record Above-P (s : List ℕ) (k i index : ℕ) : Type 0 where
   pub asks : Asks-frame s k i
-  pub inside : index < records s
-  pub above : record-of s index .p < record-of s index .d
-  pub first : Within-P s index
+  pub first : First-above s (records s) index
 
 -- "Tables are tested first .. or 9 then 8"
 pub data Refused-with (s : List ℕ) (k i : ℕ) : ℕ → ℕ → Type 0 where

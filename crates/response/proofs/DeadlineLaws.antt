@@ -13,7 +13,7 @@ use Rattle.laws.proofs.PlaceLaws.{least-at, least-none}
 use Rattle.laws.proofs.SearchLaws.{Right, least-right, least-is, none-is, Seeking, seeking-hit, seeking-on, seeking-end}
 use Rattle.table.specs.Bytes.{record-of}
 use Rattle.table.specs.declared.record.Record.{Record}
-use Rattle.response.specs.Deadlines.{above, first-above}
+use Rattle.response.specs.Deadlines.{above, first-above, Within-P, First-above}
 
 module _ (s : List ℕ) {n i : ℕ} (seeking : Seeking (above s) n 0 i) where
   pub above-hit : {x : Record} → i < n → x ≡ record-of s i → x .p < x .d → i ≡ place-or n (first-above n s)
@@ -43,20 +43,10 @@ module _ (s : List ℕ) (n index : ℕ) (answer : index ≡ place-or n (first-ab
 
 -- ---- exactly the first record
 
--- record i is the first of n records that has "D above its P"
-pub record First-above (s : List ℕ) (n i : ℕ) : Type 0 where
-  pub inside : i < n
-  pub above : record-of s i .p < record-of s i .d
-  pub first : (j : ℕ) → j < i → record-of s j .d ≤ record-of s j .p
-
--- none of them has
-abbrev pub None-above : List ℕ → ℕ → Type 0
-None-above s n = (j : ℕ) → j < n → record-of s j .d ≤ record-of s j .p
-
 -- what the search may answer
 abbrev pub Above-told : List ℕ → ℕ → Found → Type 0
 Above-told s n (at i) = First-above s n i
-Above-told s n nowhere = None-above s n
+Above-told s n nowhere = Within-P s n
 
 module _ (s : List ℕ) (n : ℕ) where
   not-above : (j : ℕ) → record-of s j .d ≤ record-of s j .p → above s j ≡ false
@@ -76,7 +66,7 @@ module _ (s : List ℕ) (n : ℕ) where
         first = λ j low less. not-above j (it .first j less);
       })
 
-  pub none-above-is : None-above s n → first-above n s ≡ nowhere
+  pub none-above-is : Within-P s n → first-above n s ≡ nowhere
   unfolding first-above
   none-above-is none = none-is (above s) n 0 (λ j low less. not-above j (none j (omega arith)))
 

@@ -2,3 +2,4 @@ pub mod DeadlineLaws
 pub mod ShareLaws
 pub mod RoundLaws
 pub mod AnswerLaws
+pub mod FramesWithin

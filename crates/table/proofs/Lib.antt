@@ -12,3 +12,4 @@ pub mod Runs
 pub mod Stands
 pub mod TaskLaws
 pub mod ReadyLaws
+pub mod FrameRecords

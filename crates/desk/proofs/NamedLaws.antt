@@ -41,7 +41,7 @@ use Rattle.desk.specs.Questions.{on-table, demand-asked, verdict-asked, 
 use Rattle.desk.specs.Overload.{on-overload, list-at, overload-asked}
 use Rattle.desk.specs.Response.{response-asked}
 use Rattle.desk.specs.Tables.{A, B, B-list, F, K7-task, four, twenty}
-use Rattle.desk.specs.Asked.{Question, demand-of, verdict-on, replay-with, overload-into, response-of, first-values, left-by, Said, values, said, Row}
+use Rattle.desk.specs.Asked.{Question, demand-of, verdict-on, replay-with, overload-into, response-to, first-values, left-by, Said, values, said, Row}
 use Rattle.desk.specs.Named.{named}
 use Rattle.desk.proofs.SameLaws.{same-int, same-list, same-verdict, same-replay, same-response, same-answer, same-written}
 use Rattle.desk.proofs.SameSaid.{same-left, same-said, same-said-is}
@@ -57,7 +57,7 @@ quick s (demand-of task t) = demand-asked s task t
 quick s verdict-on = on-table s (λ table. answered (walk table horizon 1))
 quick s (replay-with list) = replay-asked s list
 quick s (overload-into buffer place) = left-by buffer place (quick-list s buffer place)
-quick s (response-of task frame) = response-asked s task frame
+quick s (response-to task frame) = response-asked s task frame
 quick s (first-values many task frame) = values s many task frame
 
 is-byte : ℕ → Bool
@@ -90,7 +90,7 @@ module _ (s : List ℕ) (bytes : T (every is-byte s)) where
   quick-is (overload-into buffer place) =
       ap (left-by buffer place)
       (walked (λ table v. on-overload v (λ t. placed buffer place (list-at table t))))
-  quick-is (response-of task frame) = refl
+  quick-is (response-to task frame) = refl
   quick-is (first-values many task frame) = refl
 
 by-walk : Row → Bool

@@ -6,12 +6,12 @@ use mathlib.Core.Path.{_≡_, refl, sym, ap, _∙_}
 use mathlib.Core.List.{List}
 use Prim.Native.Nat.{ℕ}
 use Rattle.laws.specs.Search.{Found, at, nowhere}
-use Rattle.laws.proofs.Tests.{kept, broken}
+use Rattle.laws.proofs.Tests.{broken}
 use Rattle.model.specs.Request.{no-frame}
 use Rattle.model.specs.Response.{Response, response}
 use Rattle.model.specs.Answer.{answered, refused}
 use Rattle.model.proofs.FrameLaws.{catches-frame}
-use Rattle.model.proofs.ShareLaws.{response-right, response-only}
+use Rattle.model.proofs.HigherLaws.{response-right, response-only}
 use Rattle.table.specs.declared.reader.Reading.{Reading}
 use Rattle.table.specs.declared.reader.Reading.the-variants as reading
 use Rattle.table.specs.Bytes.{records}
@@ -21,17 +21,12 @@ use Rattle.table.specs.WellFormed.{WellFormed}
 use Rattle.table.proofs.Exact.{read-good, good-read, read-refused, refused-read}
 use Rattle.response.specs.Deadlines.{first-above, Within-P}
 use Rattle.response.proofs.DeadlineLaws.{Above-told, first-above-is, none-above-is, above-told}
-use Rattle.desk.specs.Response.{refuse-at, response-asked}
+use Rattle.desk.specs.Response.{response-asked}
 use Rattle.desk.specs.ResponseMeaning.{Asks-frame, Refused-with, table-bad, refuses-9, refuses-8, Responds, Told}
+use Rattle.desk.proofs.ResponseLaws.{asks-response}
 
 module _ (s : List ℕ) (k i : ℕ) where
   -- ---- from the bytes to the answer
-
-  -- of a frame that is there, 8 is all that can be refused
-  asks-response : Asks-frame s k i
-      → response-asked s k i ≡ refuse-at (first-above (records s) s) 8 (answered (response (table-of s) k i))
-  unfolding response-asked
-  asks-response asks = rw (good-read s (asks .table-good), kept (catches-frame (table-of s) k i) (asks .has))
 
   pub frame-answered : Asks-frame s k i → Within-P s (records s)
       → response-asked s k i ≡ answered (response (table-of s) k i)

@@ -5,18 +5,28 @@ use mathlib.Core.Path.{_≡_, sym, _∙_}
 use mathlib.Core.List.{List}
 use Prim.Native.Nat.{ℕ, _≤_, _<_}
 use Rattle.laws.specs.Search.{place-or}
+use Rattle.laws.proofs.Tests.{kept}
 use Rattle.model.specs.Request.{Has-frame, no-frame}
 use Rattle.model.specs.Response.{response}
 use Rattle.model.specs.Answer.{answered, refused}
 use Rattle.model.proofs.FrameLaws.{catches-frame}
 use Rattle.table.specs.declared.reader.Shape.{Shape}
 use Rattle.table.specs.declared.reader.Reading.the-variants as reading
+use Rattle.table.specs.Bytes.{records}
 use Rattle.table.specs.Reader.{reading-of}
 use Rattle.table.specs.TableOf.{table-of}
-use Rattle.table.proofs.Exact.{shaped}
+use Rattle.table.proofs.Exact.{shaped, good-read}
 use Rattle.response.specs.Deadlines.{first-above}
 use Rattle.response.proofs.DeadlineLaws.{above-at, above-none}
-use Rattle.desk.specs.Response.{response-asked}
+use Rattle.desk.specs.Response.{refuse-at, response-asked}
+use Rattle.desk.specs.ResponseMeaning.{Asks-frame}
+
+-- of a frame that is there, 8 is all that can be refused
+pub asks-response : {s : List ℕ} {k i : ℕ} → Asks-frame s k i
+    → response-asked s k i ≡ refuse-at (first-above (records s) s) 8 (answered (response (table-of s) k i))
+unfolding response-asked
+asks-response {s} {k} {i} asks =
+    rw (good-read s (asks .table-good), kept (catches-frame (table-of s) k i) (asks .has))
 
 module _ (s : List ℕ) (shape : Shape) (read : reading-of s ≡ reading.Table shape) (k i : ℕ)
     {missing : Bool} (told : missing ≡ no-frame (table-of s) k i) where
@@ -28,23 +38,15 @@ module _ (s : List ℕ) (shape : Shape) (read : reading-of s ≡ reading.Table s
     pub has-frame : Has-frame (table-of s) k i
     has-frame = catches-frame (table-of s) k i .passed (sym told ∙ there)
 
+    asked : response-asked s k i
+        ≡ refuse-at (first-above (shape .records) s) 8 (answered (response (table-of s) k i))
+    asked =
+        let shape-is = shaped s shape read in
+        rw (shape-is .records-are) (asks-response (record { table-good = shape-is .well; has = has-frame }))
+
     module _ {index : ℕ} (found : index ≡ place-or (shape .records) (first-above (shape .records) s)) where
       pub some-above : index < shape .records → refused 8 index ≡ response-asked s k i
-      unfolding response-asked
-      some-above below =
-          rw (
-            read,
-            sym told ∙ there,
-            sym (shaped s shape read .records-are),
-            above-at s (shape .records) index found below,
-          )
+      some-above below = sym (asked ∙ rw (above-at s (shape .records) index found below))
 
       pub response-answered : shape .records ≤ index → answered (response (table-of s) k i) ≡ response-asked s k i
-      unfolding response-asked
-      response-answered past =
-          rw (
-            read,
-            sym told ∙ there,
-            sym (shaped s shape read .records-are),
-            above-none s (shape .records) index found past,
-          )
+      response-answered past = sym (asked ∙ rw (above-none s (shape .records) index found past))

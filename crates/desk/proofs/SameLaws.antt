@@ -14,6 +14,11 @@ use Rattle.model.specs.Answer.{Answer, answered, refused}
 use Rattle.overload.specs.declared.write.Written.{Written}
 use Rattle.overload.specs.declared.write.Written.the-variants.{Bytes, Refused}
 
+-- what is made of two numbers is the same where both are
+same-two : {A : Type 0} (make : ℕ → ℕ → A) (v n w m : ℕ) → T (eqb v w && eqb n m) → make v n ≡ make w m
+same-two make v n w m h =
+    ap₂ make (eqb→eq v w (both-left (eqb v w) (eqb n m) h)) (eqb→eq n m (both-right (eqb v w) (eqb n m) h))
+
 unfoldable pub same-int : ℤ → ℤ → Bool
 same-int (pos a) (pos b) = eqb a b
 same-int (pos a) (negsuc b) = false
@@ -83,8 +88,7 @@ same-replay (all-met t) (missed u j) = false
 
 pub same-replay-is : (a b : Replayed) → T (same-replay a b) → a ≡ b
 unfolding same-replay
-same-replay-is (missed t i) (missed u j) h =
-    ap₂ missed (eqb→eq t u (both-left (eqb t u) (eqb i j) h)) (eqb→eq i j (both-right (eqb t u) (eqb i j) h))
+same-replay-is (missed t i) (missed u j) h = same-two missed t i u j h
 same-replay-is (all-met t) (all-met u) h = ap all-met (eqb→eq t u h)
 same-replay-is (missed t i) (all-met u) h = absurd h
 same-replay-is (all-met t) (missed u j) h = absurd h
@@ -97,10 +101,8 @@ same-response (late v n) (on-time w m) = false
 
 pub same-response-is : (a b : Response) → T (same-response a b) → a ≡ b
 unfolding same-response
-same-response-is (on-time v n) (on-time w m) h =
-    ap₂ on-time (eqb→eq v w (both-left (eqb v w) (eqb n m) h)) (eqb→eq n m (both-right (eqb v w) (eqb n m) h))
-same-response-is (late v n) (late w m) h =
-    ap₂ late (eqb→eq v w (both-left (eqb v w) (eqb n m) h)) (eqb→eq n m (both-right (eqb v w) (eqb n m) h))
+same-response-is (on-time v n) (on-time w m) h = same-two on-time v n w m h
+same-response-is (late v n) (late w m) h = same-two late v n w m h
 same-response-is (on-time v n) (late w m) h = absurd h
 same-response-is (late v n) (on-time w m) h = absurd h
 
@@ -116,8 +118,7 @@ unfolding same-answer
 same-answer-is same is (answered a) (answered b) h = ap answered (is a b h)
 same-answer-is same is (answered a) (refused n i) h = absurd h
 same-answer-is same is (refused m j) (answered b) h = absurd h
-same-answer-is same is (refused m j) (refused n i) h =
-    ap₂ refused (eqb→eq m n (both-left (eqb m n) (eqb j i) h)) (eqb→eq j i (both-right (eqb m n) (eqb j i) h))
+same-answer-is same is (refused m j) (refused n i) h = same-two refused m j n i h
 
 unfoldable pub same-written : Written → Written → Bool
 same-written (Bytes m) (Bytes n) = eqb m n

@@ -4,7 +4,7 @@ use mathlib.Core.Bool.{Bool, _&&_}
 use mathlib.Core.Path.{_≡_}
 use lib.Dec.{T, eqb, eqb→eq}
 use Rattle.laws.proofs.Every.{both-left, both-right}
-use Rattle.desk.specs.Asked.{Question, demand-of, verdict-on, replay-with, overload-into, response-of, first-values, Leaves, Said}
+use Rattle.desk.specs.Asked.{Question, demand-of, verdict-on, replay-with, overload-into, response-to, first-values, Leaves, Said}
 use Rattle.desk.proofs.SameLaws.{same-list, same-list-is, same-verdict, same-verdict-is, same-replay, same-replay-is, same-response, same-response-is, same-answer, same-answer-is, same-written, same-written-is}
 
 unfoldable pub same-left : Leaves → Leaves → Bool
@@ -29,7 +29,7 @@ same-said (demand-of task t) = same-answer eqb
 same-said verdict-on = same-answer same-verdict
 same-said (replay-with list) = same-answer same-replay
 same-said (overload-into buffer place) = same-left
-same-said (response-of task frame) = same-answer same-response
+same-said (response-to task frame) = same-answer same-response
 same-said (first-values many task frame) = same-list
 
 pub same-said-is : (q : Question) (x y : Said q) → T (same-said q x y) → x ≡ y
@@ -38,5 +38,5 @@ same-said-is (demand-of task t) = same-answer-is eqb eqb→eq
 same-said-is verdict-on = same-answer-is same-verdict same-verdict-is
 same-said-is (replay-with list) = same-answer-is same-replay same-replay-is
 same-said-is (overload-into buffer place) = same-left-is
-same-said-is (response-of task frame) = same-answer-is same-response same-response-is
+same-said-is (response-to task frame) = same-answer-is same-response same-response-is
 same-said-is (first-values many task frame) = same-list-is

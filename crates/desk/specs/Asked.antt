@@ -19,7 +19,7 @@ pub data Question : Type 0 where
   verdict-on : Question
   replay-with : (list : List ℕ) → Question
   overload-into : (buffer : List ℕ) (place : ℕ) → Question
-  response-of : (task frame : ℕ) → Question
+  response-to : (task frame : ℕ) → Question
   first-values : (many task frame : ℕ) → Question
 
 -- a writer's answer; the bytes that it was to write, or its refusal; and the buffer as it leaves it
@@ -39,7 +39,7 @@ Said (demand-of task t) = Answer ℕ
 Said verdict-on = Answer Verdict
 Said (replay-with list) = Answer Replayed
 Said (overload-into buffer place) = Leaves
-Said (response-of task frame) = Answer Response
+Said (response-to task frame) = Answer Response
 Said (first-values many task frame) = List ℕ
 
 -- the first values of the recurrence for a frame
@@ -52,7 +52,7 @@ said s (demand-of task t) = demand-asked s task t
 said s verdict-on = verdict-asked s
 said s (replay-with list) = replay-asked s list
 said s (overload-into buffer place) = left-by buffer place (overload-asked s buffer place)
-said s (response-of task frame) = response-asked s task frame
+said s (response-to task frame) = response-asked s task frame
 said s (first-values many task frame) = values s many task frame
 
 pub record Row : Type 0 where

@@ -12,7 +12,7 @@ use Rattle.overload.specs.declared.write.Written.{Written}
 use Rattle.overload.specs.declared.write.Written.the-variants.{Bytes, Refused}
 use Rattle.desk.specs.Written.{refusal}
 use Rattle.desk.specs.Tables.{sporadic, A, B, B-list, F, K7-task, four, twenty}
-use Rattle.desk.specs.Asked.{demand-of, verdict-on, replay-with, overload-into, response-of, first-values, Row}
+use Rattle.desk.specs.Asked.{demand-of, verdict-on, replay-with, overload-into, response-to, first-values, Row}
 
 abbrev of-A : ℕ → ℕ → Row
 of-A t n = record { bytes = A; question = demand-of 0 t; says = answered n }
@@ -30,7 +30,7 @@ writes s buffer place answer list after =
 
 abbrev on-F : ℕ → ℕ → ℕ → ℕ → Row
 on-F task frame value rounds =
-    record { bytes = F; question = response-of task frame; says = answered (on-time value rounds) }
+    record { bytes = F; question = response-to task frame; says = answered (on-time value rounds) }
 
 unfoldable pub named : List Row
 named =

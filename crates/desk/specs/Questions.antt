@@ -5,14 +5,14 @@
 use Prim.Native.Nat.{ℕ}
 use mathlib.Core.Bool.{Bool, cond}
 use mathlib.Core.List.{List}
-use lib.Dec.{leb, ltb}
+use lib.Dec.{ltb}
 use lib.IntN.{ℤ}
 use Rattle.laws.specs.Search.{Found}
 use Rattle.model.specs.Task.{Task, Table}
 use Rattle.model.specs.Demand.{demand, work, margin}
 use Rattle.model.specs.Verdict.{horizon, closing-window, Verdict, verdict}
 use Rattle.model.specs.Answer.{Answer, answered, refused}
-use Rattle.model.specs.Request.{Requests}
+use Rattle.model.specs.Request.{Requests, no-task}
 use Rattle.model.specs.Jobs.{jobs-of}
 use Rattle.model.specs.Replay.{Replayed}
 use Rattle.table.specs.declared.reader.Reading.{Reading}
@@ -43,9 +43,6 @@ abbrev pub too-far : ℕ → Bool
 too-far t = ltb horizon t
 
 -- 9: "no such task"
-abbrev pub no-task : Table → ℕ → Bool
-no-task table k = leb (table .tasks) k
-
 abbrev pub one-task : (Task → ℕ → ℕ) → List ℕ → ℕ → ℕ → Answer ℕ
 one-task sum s k t =
     on-table s (λ table. refuse-if (no-task table k) 9 (refuse-if (too-far t) 7 (answered (sum (table .task k) t))))

@@ -19,10 +19,11 @@ sporadic task e d p = rec task 1 e d p
 unfoldable pub B : List ℕ
 B = A ++ sporadic 1 1 2 10
 
--- "F is from 003, table 3.2, kind 2, D = P: (1) at 3; (2) at 9; (3,1) at 18; (2,1) at 20; (6,3) at 60."
+-- a frame of kind 2, D = P
 abbrev pub multi : ℕ → ℕ → ℕ → List ℕ
 multi task e p = rec task 2 e p p
 
+-- "F is from 003, table 3.2, kind 2, D = P: (1) at 3; (2) at 9; (3,1) at 18; (2,1) at 20; (6,3) at 60."
 unfoldable pub F : List ℕ
 F =
     multi 0 1 3 ++ multi 1 2 9 ++ multi 2 3 18 ++ multi 2 1 18 ++ multi 3 2 20 ++ multi 3 1 20

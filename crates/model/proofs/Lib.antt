@@ -31,4 +31,6 @@ pub mod ValueLaws
 pub mod SettleLaws
 pub mod ResponseLaws
 pub mod ShareLaws
+pub mod HigherLaws
 pub mod ResponseEdges
+pub mod PeakStart

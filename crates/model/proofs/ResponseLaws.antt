@@ -3,20 +3,20 @@
 use mathlib.Core.Bool.{true, false}
 use mathlib.Core.Path.{_≡_, refl, sym, _∙_, ap}
 use mathlib.Core.Logic.{inl, inr}
-use Prim.Native.Nat.{ℕ, zero, suc, _-_, _≤_, _<_}
+use Prim.Native.Nat.{ℕ, zero, suc, _+_, _-_, _≤_, _<_}
 use native.Mathlib.Omega.{arith}
 use Rattle.laws.specs.Search.{Found, at, nowhere, least-from, place-or}
 use Rattle.laws.proofs.Cases.{lt-or-le}
 use Rattle.laws.proofs.SearchLaws.{Least, Right, least-right, least-is}
 use Rattle.model.specs.Response.{value, Response, on-time, late, settles, settled-at, response-by}
 use Rattle.model.specs.ResponseMeaning.{Never-falls, Rises-to, On-time, Late, Says}
-use Rattle.model.proofs.ValueLaws.{value-mono, value-stays, value-climbs}
+use Rattle.model.proofs.ValueLaws.{value-next, value-grows, value-mono, value-stays, value-climbs, value-least}
 use Rattle.model.proofs.SettleLaws.{settles-past, settles-again, settles-not, repeats-within, goes-within, goes-up, settled-late, settled-on-time, response-at}
 
 -- ---- what the response says
 
 -- a value passes D soon: the one before is within it, and is at least E and its number
-pub late-few : (share : ℕ → ℕ) (e d n : ℕ) → Rises-to share e n → ((m : ℕ) → m < n → value share e m ≤ d)
+late-few : (share : ℕ → ℕ) (e d n : ℕ) → Rises-to share e n → ((m : ℕ) → m < n → value share e m ≤ d)
     → n ≤ suc d - e
 late-few share e d zero rises within = omega arith
 late-few share e d (suc n) rises within =
@@ -38,7 +38,6 @@ module _ {share : ℕ → ℕ} (falls-never : Never-falls share) (e d : ℕ) whe
           passes = past;
           first = first-within;
           rises = rises;
-          few = late-few share e d n rises first-within;
         }
 
     says-on-time : value share e n ≤ d → settles share e d n ≡ true → On-time share e d (value share e n) n
@@ -95,9 +94,9 @@ module _ (share : ℕ → ℕ) (e d : ℕ) where
   pub says-only : (r : Response) → Says share e d r → r ≡ response-by share e d
   says-only (late v n) l =
       let past : d < value share e n = omega (arith, l .is, l .passes) in
+      let few : n ≤ suc d = omega (arith, late-few share e d n (l .rises) (l .first)) in
       ap (λ (w : ℕ). late w n) (l .is)
-      ∙ sym (found-at n (omega (arith, l .few)) (settles-past share e d n past) (l .first) (l .rises)
-      ∙ settled-late share e d n past)
+      ∙ sym (found-at n few (settles-past share e d n past) (l .first) (l .rises) ∙ settled-late share e d n past)
   says-only (on-time v n) t =
       let within : value share e n ≤ d = omega (arith, t .is, t .within) in
       let again : value share e (suc n) ≡ value share e n = t .repeats (suc n) (omega arith) ∙ t .is in
@@ -105,3 +104,41 @@ module _ (share : ℕ → ℕ) (e d : ℕ) where
       ∙ sym (found-at n (omega (arith, t .few)) (settles-again share e d n again)
       (λ m less. omega (arith, t .first m less, t .within)) (t .rises)
       ∙ settled-on-time share e d n within)
+
+-- ---- the equation
+
+module _ {share : ℕ → ℕ} {e d v n : ℕ} (t : On-time share e d v n) where
+  -- the response solves x = E + share x
+  pub on-time-solves : e + share v ≡ v
+  on-time-solves = ap (λ (x : ℕ). e + share x) (t .is) ∙ sym (value-next share e n) ∙ t .repeats (suc n) (omega arith)
+
+  -- and no smaller x does
+  pub on-time-least : Never-falls share → (x : ℕ) → e + share x ≡ x → v ≤ x
+  on-time-least falls-never x solves = omega (arith, t .is, value-least falls-never e x (omega arith) n)
+
+-- ---- the document's claims alone: that the values rise follows from them
+
+module _ {share : ℕ → ℕ} (falls-never : Never-falls share) (e d n : ℕ) where
+  rises-to : ((m : ℕ) → m < n → value share e m ≡ value share e n → ⊥) → Rises-to share e n
+  rises-to other m less =
+      elim (lt-or-le (value share e m) (value share e (suc m))) [
+        | inl up ↦ up
+        | inr flat ↦
+            let again : value share e (suc m) ≡ value share e m = omega (arith, value-grows falls-never e m) in
+            absurd (other m less (sym (value-stays share e m again n (omega arith))))
+      ]
+
+  pub first-past : d < value share e n → ((m : ℕ) → m < n → value share e m ≤ d)
+      → response-by share e d ≡ late (value share e n) n
+  first-past past within =
+      let rises = rises-to (λ m less same. omega (arith, within m less)) in
+      let few : n ≤ suc d = omega (arith, late-few share e d n rises within) in
+      found-at share e d n few (settles-past share e d n past) within rises ∙ settled-late share e d n past
+
+  pub first-repeated : value share e (suc n) ≡ value share e n → value share e n ≤ d
+      → ((m : ℕ) → m < n → value share e m ≡ value share e n → ⊥) → response-by share e d ≡ on-time (value share e n) n
+  first-repeated again within other =
+      let rises = rises-to other in
+      found-at share e d n (omega (arith, value-climbs share e n rises)) (settles-again share e d n again)
+      (λ m less. omega (arith, value-mono falls-never e m n (omega arith))) rises
+      ∙ settled-on-time share e d n within

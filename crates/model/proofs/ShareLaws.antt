@@ -1,5 +1,5 @@
--- Laws of the share that a higher task takes from its peak frame on, and the response of a frame with it. These are the
--- laws to redo if another share is put in: the recurrence asks only that a share never falls.
+-- Laws of the share that a higher task takes from its peak frame on. These are the laws to redo if another share is put
+-- in: all that the others ask of it is that it never falls.
 -- Assumes nothing.
 use mathlib.Core.Path.{_≡_, ap, subst}
 use Prim.Native.Nat.{ℕ, suc, _-_, _≤_, _<_}
@@ -8,15 +8,14 @@ use native.Mathlib.Omega.{arith}
 use lib.Dec.{ltb}
 use Rattle.laws.specs.Sums.{sum, only}
 use Rattle.laws.proofs.Cases.{neither-lower}
-use Rattle.laws.proofs.SumLaws.{gate, sum-mono, greatest-ge}
+use Rattle.laws.proofs.SumLaws.{gate, greatest-ge}
 use Rattle.laws.proofs.PeakLaws.{peaked-lowest, peak-of, first-greatest-cong}
-use Rattle.model.specs.Task.{Task, Table}
+use Rattle.model.specs.Task.{Task}
 use Rattle.model.specs.Demand.{frame, offset, counted, lowest}
-use Rattle.model.specs.Response.{Response, peak-frame, share-of, higher-share, response}
-use Rattle.model.specs.ResponseMeaning.{Never-falls, Says, Peak}
+use Rattle.model.specs.Response.{peak-frame, share-of}
+use Rattle.model.specs.ResponseMeaning.{Never-falls, Is-peak}
 use Rattle.model.proofs.CyclicLaws.{Moves, counted-zero, counted-on}
 use Rattle.model.proofs.DemandLaws.{counted-below, counted-mono}
-use Rattle.model.proofs.ResponseLaws.{response-says, says-only}
 
 -- ---- the share
 
@@ -31,39 +30,21 @@ pub share-mono : (task : Task) → Never-falls (share-of task)
 unfolding share-of
 share-mono task v w order = counted-mono task _ v w (peak-frame task) order
 
-pub higher-never-falls : (table : Table) (k : ℕ) → Never-falls (higher-share table k)
-unfolding higher-share
-higher-never-falls table k v w order =
-    sum-mono k (λ j. share-of (table .task j) v) (λ j. share-of (table .task j) w)
-    (λ j above. share-mono (table .task j) v w order)
-
--- the response of a frame says what the document says
-pub response-right : (table : Table) (k i : ℕ)
-    → Says (higher-share table k) (table .task k .E i) (table .task k .D i) (response table k i)
-unfolding response
-response-right table k i = response-says (higher-never-falls table k) (table .task k .E i) (table .task k .D i)
-
--- and whatever says that is the response
-pub response-only : (table : Table) (k i : ℕ) (r : Response)
-    → Says (higher-share table k) (table .task k .E i) (table .task k .D i) r → r ≡ response table k i
-unfolding response
-response-only table k i = says-only (higher-share table k) (table .task k .E i) (table .task k .D i)
-
 -- ---- the peak frame
 
-pub peak-right : (task : Task) → 1 ≤ task .count → Peak task (peak-frame task)
+pub peak-right : (task : Task) → 1 ≤ task .count → Is-peak task (peak-frame task)
 unfolding peak-frame
 peak-right task some =
     let peak = peak-of (task .E) (task .count) in
     let top = peak .1 .has some in
-    subst (Peak task) (peaked-lowest (peak .1))
+    subst (Is-peak task) (peaked-lowest (peak .1))
     (record {
       inside = peak .1 .below some;
       greatest = λ j within. omega (arith, greatest-ge (task .E) (task .count) j within);
       lowest = λ j less. omega (arith, peak .1 .lowest j less);
     })
 
-pub peak-only : (task : Task) (i j : ℕ) → Peak task i → Peak task j → i ≡ j
+pub peak-only : (task : Task) (i j : ℕ) → Is-peak task i → Is-peak task j → i ≡ j
 peak-only task i j one other =
     neither-lower i j (λ less. omega (arith, other .lowest i less, one .greatest j (other .inside)))
     (λ more. omega (arith, one .lowest j more, other .greatest i (one .inside)))

@@ -34,9 +34,12 @@ pub record Has-frame (table : Table) (k i : ℕ) : Type 0 where
   pub task : k < table .tasks
   pub frame : i < table .task k .count
 
--- the test for it: "no such task or frame", "unknown task or frame"
+-- the tests whether it has not: "no such task or frame", "unknown task or frame"
+abbrev pub no-task : Table → ℕ → Bool
+no-task table k = leb (table .tasks) k
+
 abbrev pub no-frame : Table → ℕ → ℕ → Bool
-no-frame table k i = leb (table .tasks) k || leb (table .task k .count) i
+no-frame table k i = no-task table k || leb (table .task k .count) i
 
 -- request j is the next of its task after request i
 pub record Next (list : Requests) (i j : ℕ) : Type 0 where

@@ -5,11 +5,11 @@ use Prim.Native.Nat.{ℕ, suc, _-_, _≤_, _<_}
 use Rattle.model.specs.Task.{Task}
 use Rattle.model.specs.Response.{value, Response, on-time, late}
 
--- a share that takes no less of more: all that is asked of one
+-- of a later time the share is no smaller: all that is asked of a share
 abbrev pub Never-falls : (ℕ → ℕ) → Type 0
 Never-falls share = (v w : ℕ) → v ≤ w → share v ≤ share w
 
--- the values before number n rise strictly: none of them is repeated
+-- the values rise strictly up to number n: none before it is repeated
 abbrev pub Rises-to : (ℕ → ℕ) → ℕ → ℕ → Type 0
 Rises-to share e n = (m : ℕ) → m < n → value share e m < value share e (suc m)
 
@@ -29,7 +29,6 @@ pub record Late (share : ℕ → ℕ) (e d v n : ℕ) : Type 0 where
   pub passes : d < v
   pub first : (m : ℕ) → m < n → value share e m ≤ d
   pub rises : Rises-to share e n
-  pub few : n ≤ suc d - e
 
 -- what a response says of the recurrence
 abbrev pub Says : (ℕ → ℕ) → ℕ → ℕ → Response → Type 0
@@ -37,7 +36,7 @@ Says share e d (on-time v n) = On-time share e d v n
 Says share e d (late v n) = Late share e d v n
 
 -- "its peak frame (greatest E, lowest number if equal)"
-pub record Peak (task : Task) (i : ℕ) : Type 0 where
+pub record Is-peak (task : Task) (i : ℕ) : Type 0 where
   pub inside : i < task .count
   pub greatest : (j : ℕ) → j < task .count → task .E j ≤ task .E i
   pub lowest : (j : ℕ) → j < i → task .E j < task .E i

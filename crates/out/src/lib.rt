@@ -75,7 +75,9 @@ pub fn say_problem(line: u64, why: Problem) {
     say(b": cannot be read: ");
     match why {
         Problem::NoQuestion => say(b"no such question"),
-        Problem::NoNumber => say(b"a number is missing or not a number"),
+        Problem::NoNumber => say(
+            b"a number is missing, or is not one of 0 to 18446744073709551615",
+        ),
         Problem::Missing(what) => say_of(what, b" is missing"),
         Problem::NotHex(what) => say_of(what, b" is not hex"),
         Problem::TooLong(what) => say_of(what, b" is too long for the buffer"),

@@ -12,6 +12,6 @@ response-of (Rule.on-time value rounds) = OnTime value rounds
 response-of (Rule.late value round) = Late value round
 
 -- the response by the rule; "Rounds on time are at most D minus E."
-pub record Responds (table : Table) (k i : ℕ) (r : Response) : Type 0 where
+pub record Response-is (table : Table) (k i : ℕ) (r : Response) : Type 0 where
   pub is : r ≡ response-of (Rule.response table k i)
   pub few : (value rounds : ℕ) → r ≡ OnTime value rounds → rounds ≤ table .task k .D i - table .task k .E i

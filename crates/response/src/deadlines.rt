@@ -1,4 +1,4 @@
-// The frames whose deadline comes after the next frame's arrival: refusal 8.
+// The first frame whose deadline comes after the next frame may arrive: refusal 8.
 ghost use mathlib.Core.Path.{_≡_};
 ghost use Prim.Native.Nat.{_*_, _≤_};
 ghost use lib.ListN.{length};

@@ -3,7 +3,7 @@ use table::plan::Plan;
 ghost use Rattle.model.specs.Request.{Has-frame};
 ghost use Rattle.table.specs.Ready.{Ready};
 ghost use Rattle.table.specs.TableOf.{table-of};
-ghost use Rattle.response.specs.Written.{Responds};
+ghost use Rattle.response.specs.Written.{Response-is};
 
 pub enum Response {
     OnTime { value: u64, rounds: u64 },
@@ -13,7 +13,7 @@ pub enum Response {
 // The response of frame i of task k, with the number of its value in the recurrence.
 pub fn respond(s: &[u8], plan: Plan, k: usize, i: usize) -> Response
     requires { ⌜ Ready (now s) plan × Has-frame (table-of (now s)) k i ⌝ }
-    ensures { λ r. ⌜ Responds (table-of (now (s .entry))) k i r ⌝ }
+    ensures { λ r. ⌜ Response-is (table-of (now (s .entry))) k i r ⌝ }
 {
     let x = table::frame::frame_at(s, plan, k, i);
     let run = x.e as u64;

@@ -10,9 +10,9 @@ use Rattle.text.specs.declared.Sort.{Sort}
 use Rattle.text.specs.declared.Sort.the-variants.{Space, Other, LineFeed}
 use Rattle.text.specs.declared.Word.{Word}
 
--- a space (32) or a carriage return (13)
+-- a space (32), a tab (9) or a carriage return (13)
 abbrev pub space : ℕ → Bool
-space b = eqb b 32 || eqb b 13
+space b = eqb b 32 || (eqb b 9 || eqb b 13)
 
 -- a line feed is 10
 unfoldable pub of-sort : Sort → ℕ → Bool

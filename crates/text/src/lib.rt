@@ -38,11 +38,11 @@ pub enum Filled {
     TooLong,
 }
 
-// A carriage return counts as a space, so a file with CR LF line ends reads as one with LF.
+// A tab counts as a space; so does a carriage return, for a file with CR LF line ends to read as one with LF.
 fn is_space(b: u8) -> bool
     ensures { λ r. ⌜ r ≡ space b ⌝ }
 {
-    (b == b' ') | (b == b'\r')
+    (b == b' ') | ((b == b'\t') | (b == b'\r'))
 }
 
 fn is_of_sort(sort: Sort, b: u8) -> bool

@@ -5,7 +5,7 @@ use Prim.Native.Nat.{suc, _-_}
 use native.Mathlib.Omega.{arith}
 use borrow.Author.Needs.{needs}
 use Rattle.model.specs.Response.{higher-share}
-use Rattle.model.proofs.ShareLaws.{higher-never-falls}
+use Rattle.model.proofs.HigherLaws.{higher-never-falls}
 use Rattle.table.specs.TableOf.{table-of}
 use Rattle.table.proofs.ReadyLaws.{ready-tasks}
 use Rattle.response.proofs.RoundLaws.{Rounds, rounds-start, rounds-rise, rounds-on}
@@ -56,9 +56,10 @@ loop-again c =
 -- the value passes D
 returns-2 : tie.Need-returns-2 Inv-loop μ-loop
 returns-2 c =
-    let read = c .before .before .before .before in
+    let at-loop = c .before in
+    let read = at-loop .before .before .before in
     let frame = read .frame-at .ensures in
-    late-answer _ _ _ (frame .e) (frame .d) (c .before .loop .inv) (search needs)
+    late-answer _ _ _ (frame .e) (frame .d) (at-loop .loop .inv) (search needs)
 
 pub respond-spec : {M : Type 1} → statement M
 respond-spec =

@@ -5,7 +5,7 @@ use Prim.Native.Nat.{ℕ, suc, _-_, _≤_, _<_}
 use Rattle.model.specs.Task.{Task}
 use Rattle.model.specs.Response.{value, Response, on-time, late}
 
--- of a later time the share is no smaller: all that is asked of a share
+-- of more time the share is no smaller: all that the laws ask of a share
 abbrev pub Never-falls : (ℕ → ℕ) → Type 0
 Never-falls share = (v w : ℕ) → v ≤ w → share v ≤ share w
 

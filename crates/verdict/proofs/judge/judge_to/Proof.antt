@@ -20,9 +20,6 @@ Inv-loop s plan limit low₀ at₀ t₀ low at t = Walking (table-of s) limit t 
 abbrev μ-loop : tie.MeasureT-loop
 μ-loop s plan limit low₀ at₀ t₀ low at t = limit + 1 - t
 
-loop-holds : tie.Need-loop-holds Inv-loop μ-loop
-loop-holds c = walking-start (ready-proper (c .before .pre .0) (c .shared-slice-known .given)) _
-
 good : (c : tie.At-loop Inv-loop μ-loop) → ProperTable (table-of (c .before .before .args .s .now))
 good c = ready-proper (c .before .before .pre .0) (c .before .shared-slice-known .given)
 
@@ -36,7 +33,7 @@ returns c =
     ∙ ap judged-of (walking-over (good at-loop) _ (at-loop .loop .inv) (search needs) (omega arith))
 
 -- where what t asks was summed, of a place where its work was summed
-asked-at : tie.After-total2 Inv-loop μ-loop → tie.After-total Inv-loop μ-loop
+abbrev asked-at : tie.After-total2 Inv-loop μ-loop → tie.After-total Inv-loop μ-loop
 asked-at c = let lowered = c .before .before in lowered .before .before
 
 -- what t brings where it is no overload
@@ -46,19 +43,12 @@ tried : (c : tie.After-total2 Inv-loop μ-loop) →
     let entry = at-loop .before .before .args in
     Tried (table-of (entry .s .now)) (entry .limit) (at-loop .loop .t) (at-loop .loop .low) (at-loop .loop .at)
     (asked .total .result) (c .before .lesser .result) (c .before .before .first-low .result)
-unfolding asked-at
 tried c =
-    record {
-      more = search needs;
-      asked = demands-are (asked-at c .total .ensures);
-      calm = search needs;
-      low-is = search needs;
-      at-is = search needs;
-    }
+    let asked = demands-are (asked-at c .total .ensures) in
+    record { more = search needs; asked = asked; calm = search needs; low-is = search needs; at-is = search needs }
 
 -- t closes
 returns-2 : tie.Need-returns-2 Inv-loop μ-loop
-unfolding asked-at
 returns-2 c =
     let worked = c .before .before in
     let at-loop = asked-at worked .before .before in
@@ -66,7 +56,6 @@ returns-2 c =
     c .fit-in .ensures ∙ ap judged-of (walking-fits (good at-loop) _ (at-loop .loop .inv) (tried worked) (omega arith))
 
 loop-again : tie.Need-loop-again Inv-loop μ-loop
-unfolding asked-at
 loop-again c =
     let worked = c .before in
     let at-loop = asked-at worked .before .before in
@@ -83,7 +72,7 @@ judge-to-spec =
     (tie.spec
     Inv-loop
     μ-loop
-    loop-holds
+    (λ c. walking-start (ready-proper (c .before .pre .0) (c .shared-slice-known .given)) _)
     (λ c κs. search needs)
     (λ c κs. search needs)
     returns

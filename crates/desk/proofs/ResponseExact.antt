@@ -39,8 +39,7 @@ module _ (s : List ℕ) (k i : ℕ) where
   bad-unanswered (refuses-9 gone) =
       rw (good-read s (gone .table-good), broken (catches-frame (table-of s) k i) (gone .none))
   bad-unanswered (refuses-8 high) =
-      asks-response (high .asks)
-      ∙ rw (first-above-is s (records s) (high .first))
+      asks-response (high .asks) ∙ rw (first-above-is s (records s) (high .first))
 
   -- whatever says of the frame what the document says is the answer
   pub responds-only : (r : Response) → Responds s k i r → response-asked s k i ≡ answered r
@@ -54,8 +53,7 @@ module _ (s : List ℕ) (k i : ℕ) where
   bad-told bad = rw (bad-unanswered bad) bad
 
   found-told : Asks-frame s k i → (found : Found) → Above-told s (records s) found → Told s k i (response-asked s k i)
-  found-told asks (at index) it =
-      bad-told (refuses-8 (record { asks = asks; first = it }))
+  found-told asks (at index) it = bad-told (refuses-8 (record { asks = asks; first = it }))
   found-told asks nowhere within =
       rw (frame-answered asks within)
       (record { asks = asks; within = within; says = response-right (table-of s) k i })

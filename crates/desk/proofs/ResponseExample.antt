@@ -1,19 +1,24 @@
 -- Tables that meet what the laws about the response ask: F, which has a frame (3,0), none (5,0) and none (0,1), and A,
--- whose record 2 has D above its P; and what the laws then say.
+-- whose record 2 has D above its P; and what the laws then say. And a small table with a late frame.
 -- Assumes nothing.
-use mathlib.Core.Path.{_≡_, subst}
-use Prim.Native.Nat.{zero, suc}
+use mathlib.Core.Path.{_≡_, refl, subst}
+use mathlib.Core.List.{List, _++_}
+use Prim.Native.Nat.{ℕ, zero, suc}
 use native.Mathlib.Omega.{arith}
 use lib.Dec.{lit<, lit≤}
-use Rattle.laws.specs.Sums.{sum}
-use Rattle.model.specs.Response.{on-time}
+use Rattle.laws.specs.Sums.{sum, greatest}
+use Rattle.laws.specs.Search.{least-from}
+use Rattle.laws.specs.Reader.{read-on, read-all}
+use Rattle.model.specs.Demand.{frame, offset, counted}
+use Rattle.model.specs.Response.{value, on-time, late, settles, settled-at, response-by, peak-frame, share-of, higher-share, response}
 use Rattle.model.specs.Answer.{answered, refused}
 use Rattle.table.specs.Bytes.{records, record-of}
-use Rattle.table.specs.TableOf.{records-of, task-of}
-use Rattle.response.specs.Deadlines.{Within-P}
+use Rattle.table.specs.Reader.{reading-of}
+use Rattle.table.specs.TableOf.{records-before, records-of, task-of}
+use Rattle.response.specs.Deadlines.{first-above, Within-P}
 use Rattle.desk.specs.Response.{response-asked}
 use Rattle.desk.specs.ResponseMeaning.{Asks-frame, No-frame, Above-P, refuses-9, refuses-8, Responds, Told}
-use Rattle.desk.specs.Tables.{A, F}
+use Rattle.desk.specs.Tables.{sporadic, A, F}
 use Rattle.desk.specs.Named.{named}
 use Rattle.desk.proofs.NamedLaws.{named-right, no-row}
 use Rattle.desk.proofs.ResponseExact.{bad-unanswered, response-told}
@@ -75,3 +80,17 @@ A-no-frame = record { table-good = A-calm .table-good; none = λ has. omega (ari
 
 pub A-without-frame : response-asked A 0 4 ≡ refused 9 0
 A-without-frame = bad-unanswered A 0 4 (refuses-9 A-no-frame)
+
+-- ---- late: (3,4,9) under (2,4,4) goes 3, 5
+
+pub late-table : List ℕ
+late-table = sporadic 0 2 4 4 ++ sporadic 1 3 4 9
+
+late-asked : response-asked late-table 1 0 ≡ answered (late 5 1)
+unfolding late-table response-asked reading-of read-all read-on record-of records-before records-of task-of first-above
+    response response-by settles settled-at value higher-share share-of peak-frame counted offset frame sum greatest
+    least-from
+late-asked = refl
+
+pub late-responds : Responds late-table 1 0 (late 5 1)
+late-responds = subst (Told late-table 1 0) late-asked (response-told late-table 1 0)

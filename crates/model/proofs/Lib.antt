@@ -33,4 +33,5 @@ pub mod ResponseLaws
 pub mod ShareLaws
 pub mod HigherLaws
 pub mod ResponseEdges
+pub mod EdgeExamples
 pub mod PeakStart

@@ -1,32 +1,26 @@
--- The peak start can be too kind. Task 0 of kind 2, E 4,1,3,3, every P 5, above a frame with E 3 and D 9: by document
--- 01's share, from the peak frame, the response is 8. The most work that task 0 can bring, over all its starts, makes
--- the same frame late: it is brought from frame 3 on.
+-- The peak start can be too kind. Task 0 of kind 2, E 4,1,3,3, every P 5, above (3,9,20): by document 01's share, from
+-- the peak frame, the response is 8. The most work that task 0 can bring, over all its starts, makes the same frame
+-- late: it is brought from frame 3 on.
 -- Assumes nothing.
 use mathlib.Core.Path.{_≡_, refl}
 use Prim.Native.Nat.{ℕ, zero, suc}
 use Rattle.laws.specs.Sums.{sum, greatest}
 use Rattle.laws.specs.Search.{least-from}
-use Rattle.model.specs.Task.{Task, Table}
+use Rattle.model.specs.Task.{Task}
 use Rattle.model.specs.Demand.{frame, offset, counted, work}
 use Rattle.model.specs.Response.{value, on-time, late, settles, settled-at, response-by, peak-frame, share-of, higher-share, response}
+use Rattle.model.proofs.EdgeExamples.{sporadic, over}
 
 runs : ℕ → ℕ
 runs zero = 4
 runs (suc zero) = 1
 runs (suc (suc i)) = 3
 
--- task 0, and the frame under it, whose P is 20
 pub above : Task
 above = record { count = 4; E = runs; D = λ i. 5; P = λ i. 5 }
 
-under : Task
-under = record { count = 1; E = λ i. 3; D = λ i. 9; P = λ i. 20 }
-
-pub two : Table
-two = record { tasks = 2; task = λ k. elim k [ zero ↦ above | suc j ↦ under ] }
-
-pub from-the-peak : response two 1 0 ≡ on-time 8 2
-unfolding two above under runs response response-by settles settled-at value higher-share share-of peak-frame counted
+pub from-the-peak : response (over above (sporadic 3 9 20)) 1 0 ≡ on-time 8 2
+unfolding above runs response response-by settles settled-at value higher-share share-of peak-frame counted
     offset frame sum greatest least-from
 from-the-peak = refl
 

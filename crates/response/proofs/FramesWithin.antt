@@ -1,5 +1,5 @@
--- The records and the frames have one and the same D above P, or none: 8 is refused exactly where some frame of the
--- table has D above its P.
+-- No record has D above its P exactly where no frame of the table has: so 8, which looks at the records, is given
+-- exactly where "some frame of the table has D above its P".
 -- Assumes nothing.
 use mathlib.Core.List.{List}
 use native.Mathlib.Omega.{arith}

@@ -10,7 +10,7 @@ use Rattle.table.specs.TableOf.{table-of, task-of}
 use Rattle.table.specs.Ready.{Ready, Stands-at}
 use Rattle.table.specs.declared.frame.Place.{Place}
 use Rattle.table.specs.declared.plan.Plan.{Plan}
-use Rattle.table.proofs.ReadyLaws.{Bytes, ready-here, ready-proper}
+use Rattle.table.proofs.ReadyLaws.{Bytes, place-task, ready-here, ready-proper}
 use Rattle.sums.specs.declared.peak.Peak.{Peak}
 use Rattle.sums.specs.Sized.{ceiling, Stands, Counted, Greatest}
 
@@ -18,11 +18,11 @@ use Rattle.sums.specs.Sized.{ceiling, Stands, Counted, Greatest}
 module _ {s : List ℕ} {k : ℕ} {place : Place} (stands : Stands-at s k place) {due : Bool} {t : ℕ} where
   pub task-greatest : {r : Peak} → Greatest (task-of s (place .first) (place .frames)) due t r
       → Greatest (table-of s .task k) due t r
-  task-greatest {r} = subst (λ (task : Task). Greatest task due t r) (sym (stands .task-is))
+  task-greatest {r} = subst (λ (task : Task). Greatest task due t r) (sym (place-task stands))
 
   pub task-counted : {start r : ℕ} → Counted (task-of s (place .first) (place .frames)) due t start r
       → Counted (table-of s .task k) due t start r
-  task-counted {start} {r} = subst (λ (task : Task). Counted task due t start r) (sym (stands .task-is))
+  task-counted {start} {r} = subst (λ (task : Task). Counted task due t start r) (sym (place-task stands))
 
 module _ {s : List ℕ} {plan : Plan} (ready : Ready s plan) (bytes : Bytes s) (k : ℕ) (inside : k < plan .tasks) where
   proper : Proper (table-of s .task k)
@@ -31,7 +31,7 @@ module _ {s : List ℕ} {plan : Plan} (ready : Ready s plan) (bytes : Bytes s) (
   pub task-stands : {place : Place} → Stands-at s k place → (t : ℕ) → t ≤ ceiling
       → Stands s (place .first) (place .frames) t
   task-stands stands t within =
-      record { inside = stands .inside; proper = subst Proper (stands .task-is) proper; within = within }
+      record { inside = stands .inside; proper = subst Proper (place-task stands) proper; within = within }
 
   -- a start fits a byte
   pub task-start : {due : Bool} {t : ℕ} {r : Peak} → Greatest (table-of s .task k) due t r → r .start < 16

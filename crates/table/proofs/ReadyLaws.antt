@@ -1,7 +1,7 @@
 -- What a caller that has a table and its plan knows of each task.
 -- Assumes nothing.
 use mathlib.Core.Bool.{true}
-use mathlib.Core.Path.{_≡_, sym}
+use mathlib.Core.Path.{_≡_, sym, ap₂}
 use mathlib.Core.List.{List}
 use Prim.Native.Nat.{ℕ, _+_, _-_, _*_, _≤_, _<_}
 use native.Mathlib.Omega.{arith}
@@ -13,7 +13,7 @@ use mir.Val.{Fits}
 use Rattle.model.specs.Request.{Has-frame, no-frame}
 use Rattle.model.specs.Task.{ProperTable}
 use Rattle.table.specs.Bytes.{size, record-of}
-use Rattle.table.specs.TableOf.{table-of, plan-of}
+use Rattle.table.specs.TableOf.{task-of, table-of, plan-of}
 use Rattle.table.specs.Reader.{most-records, reading-of}
 use Rattle.table.specs.Ready.{Ready, Stands-at, Frame-is, Frames}
 use Rattle.table.specs.declared.frame.Place.{Place}
@@ -37,11 +37,13 @@ ready-read s shape read made =
     let told = shaped s shape read in
     record { good = told .well; plan-is = rw (told .records-are, told .tasks-are) at made }
 
--- how many frames the task of a place has
-pub place-frames : {s : List ℕ} {k : ℕ} {place : Place} → Stands-at s k place
-    → Frames (table-of s .task k) (place .frames)
-place-frames {s} stands =
-    record { is = rw (stands .task-is, task-count s _ _); some = stands .some; few = stands .few }
+module _ {s : List ℕ} {k : ℕ} {place : Place} (stands : Stands-at s k place) where
+  -- the task is the records of its place
+  pub place-task : table-of s .task k ≡ task-of s (place .first) (place .frames)
+  place-task = ap₂ (task-of s) (sym (stands .first-is)) (sym (stands .frames-are))
+
+  pub place-frames : Frames (table-of s .task k) (place .frames)
+  place-frames = record { is = rw (place-task, task-count s _ _); some = stands .some; few = stands .few }
 
 module _ {s : List ℕ} {plan : Plan} (ready : Ready s plan) where
   all : Plans s plan
@@ -75,7 +77,8 @@ module _ {s : List ℕ} {plan : Plan} (ready : Ready s plan) where
     ready-place =
         let stands = ready-stands in
         record {
-          task-is = stands .task-is;
+          first-is = stands .first-is;
+          frames-are = stands .frames-are;
           inside = omega (arith, stands .inside, stands .ordered);
           some = stands .some;
           few = stands .few;

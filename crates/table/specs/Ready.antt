@@ -6,7 +6,7 @@ use Prim.Native.Nat.{ℕ, _+_, _*_, _≤_}
 use lib.ListN.{length}
 use Rattle.model.specs.Task.{Task}
 use Rattle.table.specs.Bytes.{size, records}
-use Rattle.table.specs.TableOf.{table-of, task-of, plan-of}
+use Rattle.table.specs.TableOf.{records-before, records-of, table-of, plan-of}
 use Rattle.table.specs.WellFormed.{WellFormed}
 use Rattle.table.specs.declared.frame.Place.{Place}
 use Rattle.table.specs.declared.plan.Plan.{Plan}
@@ -17,9 +17,10 @@ pub record Ready (s : List ℕ) (plan : Plan) : Type 0 where
   pub good : WellFormed s
   pub plan-is : plan ≡ plan-of s (records s) (table-of s .tasks)
 
--- task k is the records of this place
+-- where task k stands: after the records of the tasks before it, as many records as it has frames
 pub record Stands-at (s : List ℕ) (k : ℕ) (place : Place) : Type 0 where
-  pub task-is : table-of s .task k ≡ task-of s (place .first) (place .frames)
+  pub first-is : place .first ≡ records-before (records s) s k
+  pub frames-are : place .frames ≡ records-of (records s) s k
   pub inside : (place .first + place .frames) * size ≤ length s
   pub some : 1 ≤ place .frames
   pub few : place .frames ≤ 16

@@ -11,5 +11,7 @@ pub mod Tick
 pub mod Replay
 pub mod Weave
 pub mod Overload
+pub mod Schedule
+pub mod Service
 pub mod Response
 pub mod ResponseMeaning

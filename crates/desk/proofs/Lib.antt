@@ -1,17 +1,11 @@
 pub mod AskLaws
-pub mod SameLaws
-pub mod SameSaid
-pub mod NamedLaws
 pub mod ListLaws
 pub mod WritingLaws
 pub mod WritingExact
 pub mod WritingFits
 pub mod WritingLeft
 pub mod ListExact
-pub mod ListExample
 pub mod OverloadReplay
-pub mod WritingExample
 pub mod ReplayLaws
 pub mod ResponseLaws
 pub mod ResponseExact
-pub mod ResponseExample

@@ -12,13 +12,13 @@ use Rattle.model.specs.Jobs.{jobs-of}
 use Rattle.model.specs.Machine.{sooner}
 use Rattle.model.specs.Replay.{Replayed, all-met, Says}
 use Rattle.model.specs.Answer.{answered, refused}
+use Rattle.table.specs.Bytes.{Bytes}
 use Rattle.table.specs.declared.reader.Reading.{Reading}
 use Rattle.table.specs.declared.reader.Reading.the-variants as reading
 use Rattle.table.specs.Reader.{reading-of}
 use Rattle.table.specs.TableOf.{table-of}
 use Rattle.table.specs.WellFormed.{WellFormed}
 use Rattle.table.proofs.Exact.{read-good, good-read, read-refused, refused-read}
-use Rattle.table.proofs.ReadyLaws.{Bytes}
 use Rattle.table.proofs.Rising.{few-tasks}
 use Rattle.table.proofs.TaskLaws.{proper-table}
 use Rattle.requests.specs.declared.reader.Checked.{Checked}

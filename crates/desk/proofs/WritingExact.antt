@@ -18,13 +18,13 @@ use Rattle.model.proofs.ClosingLaws.{is-below, is-not-below}
 use Rattle.model.proofs.StartLaws.{starts-sixteen, starts-each, starts-past}
 use Rattle.model.proofs.VerdictLaws.{verdict-means, means-only}
 use Rattle.model.proofs.OverloadVerdict.{verdict-over}
+use Rattle.table.specs.Bytes.{Bytes}
 use Rattle.table.specs.declared.reader.Reading.{Reading}
 use Rattle.table.specs.declared.reader.Reading.the-variants as reading
 use Rattle.table.specs.Reader.{reading-of}
 use Rattle.table.specs.TableOf.{table-of}
 use Rattle.table.specs.WellFormed.{WellFormed}
 use Rattle.table.proofs.Exact.{read-good, good-read, read-refused, refused-read}
-use Rattle.table.proofs.ReadyLaws.{Bytes}
 use Rattle.table.proofs.TaskLaws.{proper-table}
 use Rattle.overload.specs.Place.{placed}
 use Rattle.overload.specs.Shows.{Shows}

@@ -12,6 +12,7 @@ use Rattle.model.specs.Verdict as Rule
 use Rattle.model.specs.Verdict.{horizon, verdict}
 use Rattle.model.specs.Answer.{Answer, refused}
 use Rattle.model.proofs.OverloadVerdict.{verdict-over}
+use Rattle.table.specs.Bytes.{Bytes}
 use Rattle.table.specs.declared.reader.Shape.{Shape}
 use Rattle.table.specs.declared.reader.Refusal.{Refusal}
 use Rattle.table.specs.declared.reader.Reading.the-variants as reading
@@ -19,7 +20,7 @@ use Rattle.table.specs.declared.plan.Plan.{Plan}
 use Rattle.table.specs.Reader.{reading-of}
 use Rattle.table.specs.Ready.{Ready}
 use Rattle.table.specs.TableOf.{table-of}
-use Rattle.table.proofs.ReadyLaws.{Bytes, ready-proper}
+use Rattle.table.proofs.ReadyLaws.{ready-proper}
 use Rattle.verdict.specs.declared.judge.Judged.{Judged}
 use Rattle.verdict.specs.declared.judge.Verdict.the-variants.{Overloaded}
 use Rattle.verdict.specs.Written.{judged-of}

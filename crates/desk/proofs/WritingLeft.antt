@@ -8,7 +8,7 @@ use native.Mathlib.Omega.{arith}
 use lib.ListN.{length, take, drop, length-append, length-drop}
 use lib.Seq.{length-take-le, take-append-seam, drop-append-seam, drop-drop, take-at, drop-at}
 use Rattle.model.specs.Answer.{Answer, answered, refused}
-use Rattle.table.proofs.ReadyLaws.{Bytes}
+use Rattle.table.specs.Bytes.{Bytes}
 use Rattle.overload.specs.declared.write.Written.{Written}
 use Rattle.overload.specs.Place.{written-of, buffer-after, Wrote}
 use Rattle.desk.specs.Overload.{overload-asked}

@@ -2,9 +2,6 @@ pub mod Questions
 pub mod Overload
 pub mod Response
 pub mod Written
-pub mod Tables
-pub mod Asked
-pub mod Named
 pub mod Refusals
 pub mod OverloadMeaning
 pub mod ResponseMeaning

@@ -20,10 +20,10 @@ use Rattle.model.proofs.DueLaws.{run-near}
 use Rattle.model.proofs.OverloadLaws.{overload-inside}
 use Rattle.model.proofs.WeaveLaws.{weave-count}
 use Rattle.model.proofs.WeaveSame.{Alike, weave-same}
-use Rattle.table.specs.Bytes.{size}
+use Rattle.table.specs.Bytes.{Bytes, size}
 use Rattle.table.specs.TableOf.{table-of}
 use Rattle.table.specs.declared.plan.Plan.{Plan}
-use Rattle.table.proofs.ReadyLaws.{Bytes, ready-tasks, ready-few, ready-proper}
+use Rattle.table.proofs.ReadyLaws.{ready-tasks, ready-few, ready-proper}
 use Rattle.requests.specs.Entry.{bytes-of}
 use Rattle.requests.proofs.BytesLaws.{bytes-length, bytes-same}
 use Rattle.overload.specs.declared.write.Written.the-variants as written

@@ -10,9 +10,10 @@ use Rattle.model.specs.Request.{Has-frame}
 use Rattle.model.specs.Task.{ProperTable}
 use Rattle.model.specs.Overload.{requests-by}
 use Rattle.model.proofs.StartLaws.{starts-at, starts-each}
+use Rattle.table.specs.Bytes.{Bytes}
 use Rattle.table.specs.TableOf.{table-of}
 use Rattle.table.specs.declared.plan.Plan.{Plan}
-use Rattle.table.proofs.ReadyLaws.{Bytes, ready-tasks, ready-here, ready-low, ready-proper}
+use Rattle.table.proofs.ReadyLaws.{ready-tasks, ready-here, ready-low, ready-proper}
 use Rattle.overload.specs.Counts.{Asked, Counted, many-in}
 
 module _ {s : List ℕ} {plan : Plan} {first : List ℕ} {t : ℕ} (asked : Asked s plan first t) (k : ℕ) where

@@ -6,11 +6,12 @@ use mathlib.Core.List.{List}
 use Prim.Native.Nat.{ℕ, _≤_, _<_}
 use native.Mathlib.Omega.{arith}
 use Rattle.model.specs.Task.{Task, Proper}
+use Rattle.table.specs.Bytes.{Bytes}
 use Rattle.table.specs.TableOf.{table-of, task-of}
 use Rattle.table.specs.Ready.{Ready, Stands-at}
 use Rattle.table.specs.declared.frame.Place.{Place}
 use Rattle.table.specs.declared.plan.Plan.{Plan}
-use Rattle.table.proofs.ReadyLaws.{Bytes, place-task, ready-here, ready-proper}
+use Rattle.table.proofs.ReadyLaws.{place-task, ready-here, ready-proper}
 use Rattle.sums.specs.declared.peak.Peak.{Peak}
 use Rattle.sums.specs.Sized.{ceiling, Stands, Counted, Greatest}
 

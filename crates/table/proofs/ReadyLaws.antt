@@ -8,11 +8,9 @@ use native.Mathlib.Omega.{arith}
 use lib.ListN.{length, getD}
 use lib.Dec.{leb}
 use borrow.Author.Tests.{le-leb, lt-leb}
-use mir.Syntax.{w8}
-use mir.Val.{Fits}
 use Rattle.model.specs.Request.{Has-frame, no-frame}
 use Rattle.model.specs.Task.{ProperTable}
-use Rattle.table.specs.Bytes.{size, record-of}
+use Rattle.table.specs.Bytes.{Bytes, size, record-of}
 use Rattle.table.specs.TableOf.{task-of, table-of, plan-of}
 use Rattle.table.specs.Reader.{most-records, reading-of}
 use Rattle.table.specs.Ready.{Ready, Stands-at, Frame-is, Frames}
@@ -25,10 +23,6 @@ use Rattle.table.proofs.Exact.{shaped}
 use Rattle.table.proofs.Rising.{few-tasks}
 use Rattle.table.proofs.Stands.{Planned, Plans, plans}
 use Rattle.table.proofs.TaskLaws.{task-count, task-E, task-D, task-P, proper-table}
-
--- what a `&[u8]` brings with it
-abbrev pub Bytes : List ℕ → Type 0
-Bytes s = (i : ℕ) → Fits w8 (getD s i 0)
 
 -- a caller that has read a table and made its plan is ready
 pub ready-read : (s : List ℕ) (shape : Shape) {plan : Plan} → reading-of s ≡ Table shape

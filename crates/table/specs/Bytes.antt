@@ -3,7 +3,13 @@
 use Prim.Native.Nat.{ℕ, _+_, _*_, _/_}
 use mathlib.Core.List.{List}
 use lib.ListN.{length, getD}
+use mir.Syntax.{w8}
+use mir.Val.{Fits}
 use Rattle.table.specs.declared.record.Record.{Record}
+
+-- each is a byte: what every `&[u8]` brings with it
+abbrev pub Bytes : List ℕ → Type 0
+Bytes s = (i : ℕ) → Fits w8 (getD s i 0)
 
 -- "A table is records of 8 bytes, no header"
 abbrev pub size : ℕ

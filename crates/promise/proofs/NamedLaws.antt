@@ -25,11 +25,10 @@ use Rattle.model.specs.Machine.{sooner, pick}
 use Rattle.model.specs.Replay.{missed, last-tick}
 use Rattle.table.specs.declared.reader.Reading.{Reading}
 use Rattle.table.specs.declared.reader.Reading.the-variants.{Table, Refused}
-use Rattle.table.specs.Bytes.{record-of}
+use Rattle.table.specs.Bytes.{Bytes, record-of}
 use Rattle.table.specs.Reader.{reading-of}
 use Rattle.table.specs.TableOf.{records-before, records-of, task-of}
 use Rattle.table.proofs.Exact.{read-good}
-use Rattle.table.proofs.ReadyLaws.{Bytes}
 use Rattle.table.proofs.TaskLaws.{proper-table}
 use Rattle.requests.specs.Entry.{entry-of, bytes-to}
 use Rattle.requests.specs.Reader.{check-of}
@@ -37,14 +36,14 @@ use Rattle.bench.specs.Rule.{first-late, first-left, next-in, tick-of, run-of}
 use Rattle.bench.specs.Loaded.{slots-of, loaded, run-whole, end-of}
 use Rattle.response.specs.Deadlines.{first-above}
 use Rattle.overload.specs.Place.{placed}
 use Rattle.desk.specs.Questions.{on-table, demand-asked, verdict-asked, replay-asked}
 use Rattle.desk.specs.Overload.{on-overload, list-at, overload-asked}
 use Rattle.desk.specs.Response.{response-asked}
-use Rattle.desk.specs.Tables.{A, B, B-list, F, K7-task, four, twenty}
-use Rattle.desk.specs.Asked.{Question, demand-of, verdict-on, replay-with, overload-into, response-to, first-values, left-by, Said, values, said, Row}
-use Rattle.desk.specs.Named.{named}
-use Rattle.desk.proofs.SameLaws.{same-int, same-list, same-verdict, same-replay, same-response, same-answer, same-written}
-use Rattle.desk.proofs.SameSaid.{same-left, same-said, same-said-is}
+use Rattle.promise.specs.Tables.{A, B, B-list, F, K7-task, four, twenty}
+use Rattle.promise.specs.Asked.{Question, demand-of, verdict-on, replay-with, overload-into, response-to, first-values, left-by, Said, values, said, Row}
+use Rattle.promise.specs.Named.{named}
+use Rattle.promise.proofs.SameLaws.{same-int, same-list, same-verdict, same-replay, same-response, same-answer, same-written}
+use Rattle.promise.proofs.SameSaid.{same-left, same-said, same-said-is}
 
 -- the overload list, where the walk gives the verdict
 quick-list : List ℕ → List ℕ → ℕ → Answer (List ℕ)

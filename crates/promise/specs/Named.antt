@@ -10,9 +10,9 @@ use Rattle.model.specs.Response.{on-time}
 use Rattle.model.specs.Answer.{Answer, answered, refused}
 use Rattle.overload.specs.declared.write.Written.{Written}
 use Rattle.overload.specs.declared.write.Written.the-variants.{Bytes, Refused}
 use Rattle.desk.specs.Written.{refusal}
-use Rattle.desk.specs.Tables.{sporadic, A, B, B-list, F, K7-task, four, twenty}
-use Rattle.desk.specs.Asked.{demand-of, verdict-on, replay-with, overload-into, response-to, first-values, Row}
+use Rattle.promise.specs.Tables.{sporadic, A, B, B-list, F, K7-task, four, twenty}
+use Rattle.promise.specs.Asked.{demand-of, verdict-on, replay-with, overload-into, response-to, first-values, Row}
 
 abbrev of-A : ℕ → ℕ → Row
 of-A t n = record { bytes = A; question = demand-of 0 t; says = answered n }

@@ -16,13 +16,13 @@ use Rattle.table.specs.Bytes.{records, record-of}
 use Rattle.table.specs.Reader.{reading-of}
 use Rattle.table.specs.TableOf.{records-before, records-of, task-of}
 use Rattle.response.specs.Deadlines.{first-above, Within-P}
 use Rattle.desk.specs.Response.{response-asked}
 use Rattle.desk.specs.ResponseMeaning.{Asks-frame, No-frame, Above-P, refuses-9, refuses-8, Responds, Told}
-use Rattle.desk.specs.Tables.{sporadic, A, F}
-use Rattle.desk.specs.Named.{named}
-use Rattle.desk.proofs.NamedLaws.{named-right, no-row}
+use Rattle.promise.specs.Tables.{sporadic, A, F}
+use Rattle.promise.specs.Named.{named}
+use Rattle.promise.proofs.NamedLaws.{named-right, no-row}
 use Rattle.desk.proofs.ResponseExact.{bad-unanswered, response-told}
-use Rattle.desk.proofs.WritingExample.{A-calm}
+use Rattle.promise.proofs.WritingExample.{A-calm}
 
 -- ---- K8, row 23: "Task 3 frame 0 goes 2, 8, 10, 13, 14: 4 rounds."
 

@@ -19,16 +19,16 @@ use Rattle.table.specs.TableOf.{table-of}
 use Rattle.table.proofs.Exact.{read-good, good-read, refused-read}
 use Rattle.table.proofs.TaskLaws.{proper-table}
 use Rattle.overload.specs.Place.{Wrote}
 use Rattle.desk.specs.Questions.{verdict-asked}
 use Rattle.desk.specs.Overload.{overload-asked}
 use Rattle.desk.specs.Written.{refusal}
 use Rattle.desk.specs.OverloadMeaning.{Overloaded-at, Not-overloaded, No-room, Refused-with, table-bad, refuses-13, refuses-12, Writes, Holds-list, Untouched}
-use Rattle.desk.specs.Tables.{A, B, B-list, twenty}
-use Rattle.desk.specs.Asked.{overload-into, Leaves, said}
-use Rattle.desk.specs.Named.{named}
-use Rattle.desk.proofs.NamedLaws.{named-right, no-row, A-bytes, B-bytes}
+use Rattle.promise.specs.Tables.{A, B, B-list, twenty}
+use Rattle.promise.specs.Asked.{overload-into, Leaves, said}
+use Rattle.promise.specs.Named.{named}
+use Rattle.promise.proofs.NamedLaws.{named-right, no-row, A-bytes, B-bytes}
 use Rattle.desk.proofs.WritingExact.{over-judged, bad-unwritten}
 use Rattle.desk.proofs.WritingLeft.{wrote-leaves}
 
 -- ---- K4, rows 10, 12 and 13: "overloaded at 2", "In a 20-byte buffer from place 2 ..; from place 5, refusal 12."
 

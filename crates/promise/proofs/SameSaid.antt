@@ -4,8 +4,8 @@ use mathlib.Core.Bool.{Bool, _&&_}
 use mathlib.Core.Path.{_≡_}
 use lib.Dec.{T, eqb, eqb→eq}
 use Rattle.laws.proofs.Every.{both-left, both-right}
-use Rattle.desk.specs.Asked.{Question, demand-of, verdict-on, replay-with, overload-into, response-to, first-values, Leaves, Said}
-use Rattle.desk.proofs.SameLaws.{same-list, same-list-is, same-verdict, same-verdict-is, same-replay, same-replay-is, same-response, same-response-is, same-answer, same-answer-is, same-written, same-written-is}
+use Rattle.promise.specs.Asked.{Question, demand-of, verdict-on, replay-with, overload-into, response-to, first-values, Leaves, Said}
+use Rattle.promise.proofs.SameLaws.{same-list, same-list-is, same-verdict, same-verdict-is, same-replay, same-replay-is, same-response, same-response-is, same-answer, same-answer-is, same-written, same-written-is}
 
 unfoldable pub same-left : Leaves → Leaves → Bool
 same-left a b =

@@ -1,0 +1,6 @@
+pub mod SameLaws
+pub mod SameSaid
+pub mod NamedLaws
+pub mod ListExample
+pub mod WritingExample
+pub mod ResponseExample

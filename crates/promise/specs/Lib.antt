@@ -1,0 +1,3 @@
+pub mod Tables
+pub mod Asked
+pub mod Named

@@ -1,3 +1,4 @@
 pub mod Tables
 pub mod Asked
 pub mod Named
+pub mod Refusals

@@ -4,3 +4,4 @@ pub mod NamedLaws
 pub mod ListExample
 pub mod WritingExample
 pub mod ResponseExample
+pub mod OneAnswerLaws

@@ -21,7 +21,7 @@ is-for nowhere k = false
 unfoldable pub units : Schedule → ℕ → ℕ → ℕ → ℕ
 units schedule k a b = sum b (λ t. only (leb a t && is-for (schedule t) k) 1)
 
--- "A request arriving at a must be done by a + D": a job that gets less than its amount from its arrival to its deadline
+-- "A request arriving at a must be done by a + D": a job gets less than its amount from its arrival to its deadline
 pub record Unfinished (jobs : Jobs) (schedule : Schedule) : Type 0 where
   pub job : ℕ
   pub inside : job < jobs .count

@@ -3,3 +3,6 @@ pub mod Asked
 pub mod Named
 pub mod Refusals
 pub mod OneAnswer
+pub mod Numbers
+pub mod Promises
+pub mod Demands

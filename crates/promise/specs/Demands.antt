@@ -1,0 +1,24 @@
+-- The three demands, in the user's order, of any bytes: each statement is a record of its own file.
+-- Assumes nothing.
+use mathlib.Core.Path.{_≡_}
+use mathlib.Core.List.{List}
+use Prim.Native.Nat.{ℕ}
+use lib.IntN.{ℤ}
+use Rattle.model.specs.Verdict.{overloaded, fits}
+use Rattle.model.specs.Answer.{answered}
+use Rattle.table.specs.WellFormed.{WellFormed}
+use Rattle.desk.specs.Questions.{verdict-asked}
+use Rattle.promise.specs.Refusals.{Exact-refusals}
+use Rattle.promise.specs.Numbers.{Numbers}
+use Rattle.promise.specs.Promises.{Passed, Overloaded, Judged-rightly}
+
+pub record Demands (s : List ℕ) : Type 0 where
+  -- 1. "Any bytes may be handed in .. Each gets an answer or one numbered refusal, exactly when the list of refusals
+  -- says so. A refused call writes nothing into a lent buffer."
+  pub refusals : Exact-refusals s
+  -- 2. "The numbers are those the published models define."
+  pub numbers : WellFormed s → Numbers s
+  -- 3. "Passed means .. Overloaded means .. Undecided only when .."
+  pub passed : {window t : ℕ} {m : ℤ} → verdict-asked s ≡ answered (fits window m t) → Passed s
+  pub overloaded : {t : ℕ} {m : ℤ} {starts : List ℕ} → verdict-asked s ≡ answered (overloaded t m starts) → Overloaded s
+  pub judged : WellFormed s → Judged-rightly s

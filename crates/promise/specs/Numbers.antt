@@ -1,0 +1,45 @@
+-- The user's second demand, "The numbers are those the published models define": what each question is answered where
+-- nothing is refused, by document 01's definitions. That the answers are settled in every part is OneAnswer; the named
+-- numbers are Named.
+-- Assumes nothing.
+use mathlib.Core.Path.{_≡_}
+use mathlib.Core.List.{List}
+use Prim.Native.Nat.{ℕ, _≤_, _<_}
+use Rattle.model.specs.Demand.{demand, work, margin}
+use Rattle.model.specs.Verdict.{horizon, closing-window, verdict}
+use Rattle.model.specs.Request.{Has-frame}
+use Rattle.model.specs.Jobs.{jobs-of}
+use Rattle.model.specs.Machine.{sooner}
+use Rattle.model.specs.Replay.{Replayed, Says}
+use Rattle.model.specs.Response.{response}
+use Rattle.model.specs.Answer.{answered}
+use Rattle.table.specs.Bytes.{records}
+use Rattle.table.specs.TableOf.{table-of}
+use Rattle.requests.specs.Entry.{list-of}
+use Rattle.requests.specs.Accepted.{Accepted}
+use Rattle.response.specs.Deadlines.{Within-P}
+use Rattle.desk.specs.Questions.{demand-asked, work-asked, margin-asked, window-asked, verdict-asked, list-asked, replay-asked}
+use Rattle.desk.specs.Response.{response-asked}
+
+-- the bench's answer, which says of the machine what document 01 says
+pub record Replayed-rightly (s list : List ℕ) : Type 0 where
+  pub answer : Replayed
+  pub is : replay-asked s list ≡ answered answer
+  pub says : let jobs = jobs-of (table-of s) (list-of list) in Says jobs (sooner jobs) answer
+
+-- of bytes that are a table
+pub record Numbers (s : List ℕ) : Type 0 where
+  pub demands : (k t : ℕ) → k < table-of s .tasks → t ≤ horizon
+      → demand-asked s k t ≡ answered (demand (table-of s .task k) t)
+  pub works : (k w : ℕ) → k < table-of s .tasks → w ≤ horizon
+      → work-asked s k w ≡ answered (work (table-of s .task k) w)
+  -- "a signed number": below zero is an answer
+  pub margins : (t : ℕ) → t ≤ horizon → margin-asked s t ≡ answered (margin (table-of s) t)
+  pub window : window-asked s ≡ answered (closing-window horizon (table-of s))
+  pub verdict-is : verdict-asked s ≡ answered (verdict horizon (table-of s))
+  -- "The desk .. gives fixed-priority response times": of a table with every D at most its P
+  pub responses : (k i : ℕ) → Has-frame (table-of s) k i → Within-P s (records s)
+      → response-asked s k i ≡ answered (response (table-of s) k i)
+  -- of bytes that are a list of the table
+  pub counts : (list : List ℕ) → Accepted (table-of s) list → list-asked s list ≡ answered (records list)
+  pub replays : (list : List ℕ) → Accepted (table-of s) list → Replayed-rightly s list

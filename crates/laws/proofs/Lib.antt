@@ -5,6 +5,7 @@ pub mod Every
 pub mod Fill
 pub mod LastLaws
 pub mod LeastLaws
+pub mod NthLaws
 pub mod PeakLaws
 pub mod PlaceLaws
 pub mod ReaderLaws
@@ -14,6 +15,7 @@ pub mod SignedLaws
 pub mod SignedOrder
 pub mod SumLaws
 pub mod SumParts
+pub mod SumShares
 pub mod TallyLaws
 pub mod TallyNext
 pub mod Tests

@@ -19,6 +19,7 @@ pub mod JobsSame
 pub mod WovenLegal
 pub mod WovenSums
 pub mod DueLaws
+pub mod LegalRuns
 pub mod OverloadLaws
 pub mod OverloadVerdict
 pub mod PickLeast

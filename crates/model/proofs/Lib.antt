@@ -20,6 +20,7 @@ pub mod WovenLegal
 pub mod WovenSums
 pub mod DueLaws
 pub mod LegalRuns
+pub mod LegalSums
 pub mod OverloadLaws
 pub mod OverloadVerdict
 pub mod PickLeast

@@ -21,6 +21,7 @@ pub mod WovenSums
 pub mod DueLaws
 pub mod LegalRuns
 pub mod LegalSums
+pub mod LegalPasses
 pub mod OverloadLaws
 pub mod OverloadVerdict
 pub mod PickLeast

@@ -1,22 +1,26 @@
 -- The overload list asks of the time up to t the demand at t, has a request where there is a demand, and none that
 -- comes at t or later. Nothing is used of the list but that it is woven from the overload's runs.
 -- Assumes nothing.
+use mathlib.Core.Bool.{_&&_}
 use mathlib.Core.Path.{_≡_, _∙_}
 use mathlib.Core.Logic.{inl, inr}
 use Prim.Native.Nat.{ℕ, _+_, _≤_, _<_}
 use native.Mathlib.Omega.{arith}
 use lib.Dec.{leb}
-use Rattle.laws.specs.Sums.{sum, only}
+use Rattle.laws.specs.Sums.{only}
 use Rattle.laws.proofs.Cases.{lt-or-le}
 use Rattle.laws.proofs.SumLaws.{sum-zero, sum-cong}
 use Rattle.model.specs.Task.{Table, ProperTable}
-use Rattle.model.specs.Demand.{part, demand, all-demands}
+use Rattle.model.specs.Demand.{offset, demand, all-demands}
+use Rattle.model.specs.Run.{asked}
 use Rattle.model.specs.Verdict.{start}
 use Rattle.model.specs.Request.{Request, Requests, of-task}
 use Rattle.model.specs.Jobs.{jobs-of}
 use Rattle.model.specs.Weave.{Woven}
-use Rattle.model.specs.Overload.{requests-by, overload-runs, asked-by}
+use Rattle.model.specs.Overload.{requests-by, overload-runs}
+use Rattle.model.specs.Schedule.{due-within}
 use Rattle.model.proofs.StartLaws.{start-right}
+use Rattle.model.proofs.RunLaws.{earliest-sum}
 use Rattle.model.proofs.DueLaws.{run-near, requests-counted}
 use Rattle.model.proofs.WovenSums.{woven-sum}
 use Rattle.model.proofs.WovenOne.{woven-left}
@@ -27,31 +31,38 @@ module _ {table : Table} (good : ProperTable table) (t : ℕ) where
 
   -- what the requests of task k ask of the time up to t: its demand
   abbrev share : ℕ → ℕ
-  share k = let task = table .task k in sum (requests-by task (start task t) t) (part task (task .D) t (start task t))
+  share k =
+      let task = table .task k in
+      let s = start task t in asked task (task .D) s (requests-by task s t) (offset task s) 0 t
 
   share-is : (k : ℕ) → k < table .tasks → share k ≡ demand (table .task k) t
   share-is k inside =
+      let task = table .task k in
+      let s = start task t in
       let proper = good .proper k inside in
-      requests-counted proper (start (table .task k) t) t ∙ start-right (table .task k) t (proper .some) .gives
+      earliest-sum task (task .D) s (requests-by task s t) t
+      ∙ requests-counted proper s t
+      ∙ start-right task t (proper .some) .gives
 
   module _ (list : Requests) (woven : Woven table (overload-runs table t) list) where
-    pub overload-asks : asked-by (jobs-of table list) t ≡ all-demands table t
-    unfolding asked-by all-demands
+    pub overload-asks : due-within (jobs-of table list) 0 t ≡ all-demands table t
+    unfolding due-within all-demands asked
     overload-asks =
         woven-sum woven asks ∙ sum-cong (table .tasks) share (λ k. demand (table .task k) t) share-is
       where
         asks : Request → ℕ
         asks r =
-            let task = table .task (r .task) in only (leb (r .arrival + task .D (r .frame)) t) (task .E (r .frame))
+            let task = table .task (r .task) in
+            only (leb 0 (r .arrival) && leb (r .arrival + task .D (r .frame)) t) (task .E (r .frame))
 
     -- no request asks nothing
     pub overload-some : 0 < all-demands table t → 0 < list .count
-    unfolding asked-by
+    unfolding due-within
     overload-some some =
         elim (lt-or-le 0 (list .count))
         [ inl more ↦ more | inr none ↦ absurd (omega (arith, overload-asks, asks-none none)) ]
       where
-        asks-none : list .count ≤ 0 → asked-by (jobs-of table list) t ≡ 0
+        asks-none : list .count ≤ 0 → due-within (jobs-of table list) 0 t ≡ 0
         asks-none none = let empty : list .count ≡ 0 = omega arith in rw empty (sum-zero _)
 
     pub overload-near : (i : ℕ) → i < list .count → list .request i .arrival < t

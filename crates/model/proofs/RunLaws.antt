@@ -8,7 +8,7 @@ use native.Mathlib.Nat.{le-refl}
 use native.Mathlib.Omega.{arith}
 use lib.Dec.{leb}
 use borrow.Author.Tests.{le-leb, lt-leb}
-use Rattle.laws.specs.Sums.{only}
+use Rattle.laws.specs.Sums.{sum, only}
 use Rattle.laws.proofs.Cases.{lt-or-le}
 use Rattle.laws.proofs.SumLaws.{gate, sum-zero, sum-head, sum-cong}
 use Rattle.model.specs.Task.{Task}
@@ -107,16 +107,17 @@ pub earliest-run : (task : Task) (s m : ℕ) → Run task s m (offset task s)
 unfolding offset
 earliest-run task s m n h = le-refl (offset task s n + task .P (frame task s n))
 
-pub earliest-asked : {task : Task} {reach : ℕ → ℕ} → Moves task reach → (s m t : ℕ) → t ≤ m
-    → asked task reach s m (offset task s) 0 t ≡ counted task reach t s
+pub earliest-sum : (task : Task) (reach : ℕ → ℕ) (s m t : ℕ)
+    → asked task reach s m (offset task s) 0 t ≡ sum m (part task reach t s)
 unfolding asked
-earliest-asked {task} {reach} moves s m t enough =
+earliest-sum task reach s m t =
     sum-cong m (λ n. only (leb 0 (offset task s n) && due n) (task .E (frame task s n))) (part task reach t s)
-    (λ n h. from-zero n)
-    ∙ counted-turns moves m t s enough
+    (λ n h. rw (le-leb 0 (offset task s n) (omega arith)))
   where
     due : ℕ → Bool
     due n = leb (offset task s n + reach (frame task s n)) t
 
-    from-zero : (n : ℕ) → only (leb 0 (offset task s n) && due n) (task .E (frame task s n)) ≡ part task reach t s n
-    from-zero n = rw (le-leb 0 (offset task s n) (omega arith))
+pub earliest-asked : {task : Task} {reach : ℕ → ℕ} → Moves task reach → (s m t : ℕ) → t ≤ m
+    → asked task reach s m (offset task s) 0 t ≡ counted task reach t s
+earliest-asked {task} {reach} moves s m t enough =
+    earliest-sum task reach s m t ∙ counted-turns moves m t s enough

@@ -4,13 +4,11 @@ use mathlib.Core.Bool.{Bool, true, false}
 use mathlib.Core.Path.{_≡_}
 use Prim.Native.Nat.{ℕ, suc, _+_, _≤_}
 use lib.Dec.{leb}
-use Rattle.laws.specs.Sums.{sum, only}
 use Rattle.laws.specs.Search.{up-to-last}
 use Rattle.model.specs.Task.{Task, Table}
 use Rattle.model.specs.Demand.{frame, offset}
 use Rattle.model.specs.Verdict.{start}
 use Rattle.model.specs.Request.{Requests}
-use Rattle.model.specs.Jobs.{Jobs}
 use Rattle.model.specs.Weave.{Runs, weave}
 
 -- "a request whose deadline is at most t": request n from frame s on, coming as early as it may
@@ -37,7 +35,3 @@ overload-runs table t =
 -- "Sorted by arrival, then task number."
 unfoldable pub overload-list : Table → ℕ → Requests
 overload-list table t = weave table (overload-runs table t)
-
--- what a list asks of the time up to t: the amounts of its jobs that are due by then
-unfoldable pub asked-by : Jobs → ℕ → ℕ
-asked-by jobs t = sum (jobs .count) (λ i. only (leb (jobs .due i) t) (jobs .amount i))

@@ -8,7 +8,8 @@ use Rattle.model.specs.Demand.{all-demands}
 use Rattle.model.specs.Request.{Legal, Same}
 use Rattle.model.specs.Jobs.{jobs-of}
 use Rattle.model.specs.Weave.{Woven}
-use Rattle.model.specs.Overload.{overload-runs, overload-list, asked-by}
+use Rattle.model.specs.Overload.{overload-runs, overload-list}
+use Rattle.model.specs.Schedule.{due-within}
 use Rattle.table.specs.Bytes.{records}
 use Rattle.requests.specs.Entry.{list-of}
 use Rattle.requests.specs.Accepted.{Lawful}
@@ -24,5 +25,5 @@ pub record Shows (table : Table) (t : ℕ) (list : List ℕ) : Type 0 where
   -- the bench's rules 10 and 11, but for its limit of 128 records
   pub lawful : Lawful table list
   -- its requests that are due by t ask for all of the demand at t
-  pub asks : asked-by (jobs-of table (list-of list)) t ≡ all-demands table t
+  pub asks : due-within (jobs-of table (list-of list)) 0 t ≡ all-demands table t
   pub some : 0 < records list

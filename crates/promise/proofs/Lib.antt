@@ -5,3 +5,4 @@ pub mod ListExample
 pub mod WritingExample
 pub mod ResponseExample
 pub mod OneAnswerLaws
+pub mod JudgedLaws

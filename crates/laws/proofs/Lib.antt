@@ -3,7 +3,9 @@ pub mod Cases
 pub mod Countdown
 pub mod Every
 pub mod Fill
+pub mod GateLaws
 pub mod LastLaws
+pub mod LastZero
 pub mod LeastLaws
 pub mod NthLaws
 pub mod PeakLaws
@@ -16,6 +18,7 @@ pub mod SignedOrder
 pub mod SumLaws
 pub mod SumParts
 pub mod SumShares
+pub mod SumSwap
 pub mod TallyLaws
 pub mod TallyNext
 pub mod Tests

@@ -1,6 +1,5 @@
 -- Laws of sums over an index, of the gate and of the greatest value.
 -- Assumes nothing.
-use mathlib.Core.Bool.{Bool, true, false}
 use mathlib.Core.Path.{_≡_, refl, sym, ap, ap₂, _∙_}
 use mathlib.Core.Logic.{inl, inr}
 use Prim.Native.Nat.{ℕ, zero, suc, _+_, _≤_, _<_}
@@ -10,6 +9,7 @@ use lib.Dec.{leb}
 use borrow.Author.Tests.{le-leb, lt-leb}
 use Rattle.laws.specs.Sums.{sum, only, greatest}
 use Rattle.laws.proofs.Cases.{lt-or-le, lt-or-last}
+use Rattle.laws.proofs.GateLaws.{only-most}
 
 -- ---- the gate
 
@@ -20,11 +20,8 @@ pub record Gate (a b x y : ℕ) : Type 0 where
   pub most : y ≤ x
 
 pub gate : (a b x : ℕ) → Gate a b x (only (leb a b) x)
-gate a b x = record { passes = λ h. rw (le-leb a b h); shut = λ h. rw (lt-leb a b h); most = within (leb a b) }
-  where
-    within : (t : Bool) → only t x ≤ x
-    within true = omega arith
-    within false = omega arith
+gate a b x =
+    record { passes = λ h. rw (le-leb a b h); shut = λ h. rw (lt-leb a b h); most = only-most (leb a b) x }
 
 -- ---- sums
 

@@ -3,20 +3,19 @@
 use mathlib.Core.Bool.{Bool, true, false, true≢false}
 use mathlib.Core.Path.{_≡_, refl, sym, ap, _∙_}
 use mathlib.Core.Logic.{inl, inr}
-use Prim.Native.Nat.{ℕ, zero, suc, _+_, _≤_, _<_}
+use Prim.Native.Nat.{ℕ, zero, suc, _+_, _-_, _≤_, _<_}
 use native.Mathlib.Omega.{arith}
+use lib.Dec.{leb}
+use borrow.Author.Tests.{le-leb, lt-leb}
 use Rattle.laws.specs.Sums.{only, tally}
-use Rattle.laws.proofs.Cases.{lt-or-last}
+use Rattle.laws.proofs.Cases.{lt-or-le, lt-or-last}
+use Rattle.laws.proofs.GateLaws.{only-most}
 use Rattle.laws.proofs.SumLaws.{sum-suc, sum-zero, sum-none}
-
-only-one : (t : Bool) → only t 1 ≤ 1
-only-one true = omega arith
-only-one false = omega arith
 
 module _ (test : ℕ → Bool) where
   pub tally-most : (n : ℕ) → tally n test ≤ n
   tally-most zero = omega (arith, sum-zero (λ i. only (test i) 1))
-  tally-most (suc n) = omega (arith, only-one (test n), tally-most n, sum-suc n (λ i. only (test i) 1))
+  tally-most (suc n) = omega (arith, only-most (test n) 1, tally-most n, sum-suc n (λ i. only (test i) 1))
 
   pub tally-passed : (n : ℕ) → test n ≡ true → tally (suc n) test ≡ tally n test + 1
   tally-passed n e = sum-suc n (λ i. only (test i) 1) ∙ rw e
@@ -81,3 +80,12 @@ tally-place test (suc n) falls =
     which : (t : Bool) → test n ≡ t → Up-to test n (tally n test) → Up-to test (suc n) (tally (suc n) test)
     which true last rest = place-passed test n (λ j order. falls j n order (omega arith) last)
     which false last rest = place-failed test n last rest
+
+-- the numbers from a on
+pub tally-from : (a b : ℕ) → tally b (leb a) ≡ b - a
+tally-from a zero = omega (arith, sum-zero (λ t. only (leb a t) 1))
+tally-from a (suc b) =
+    elim (lt-or-le b a) [
+      | inl less ↦ omega (arith, tally-from a b, tally-failed (leb a) b (lt-leb a b less))
+      | inr within ↦ omega (arith, tally-from a b, tally-passed (leb a) b (le-leb a b within))
+    ]

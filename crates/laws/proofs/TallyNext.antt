@@ -6,11 +6,12 @@ use mathlib.Core.Logic.{inl, inr}
 use Prim.Native.Nat.{ℕ, zero, suc, _≤_, _<_}
 use native.Mathlib.Omega.{arith}
 use lib.Dec.{eqb}
+use borrow.Author.Tests.{ne-eqb}
 use Rattle.laws.specs.Sums.{sum, only, tally}
 use Rattle.laws.proofs.Cases.{lt-or-le}
 use Rattle.laws.proofs.SumLaws.{sum-zero, sum-longer}
-use Rattle.laws.proofs.SumShares.{sum-shares}
-use Rattle.laws.proofs.TallyLaws.{tally-passed, tally-failed, tally-all}
+use Rattle.laws.proofs.SumShares.{sum-one, sum-shares}
+use Rattle.laws.proofs.TallyLaws.{tally-passed, tally-failed, tally-all, tally-none}
 
 -- the first from i on that passes, below n
 pub record Next-passing (test : ℕ → Bool) (i n : ℕ) : Type 0 where
@@ -54,6 +55,16 @@ module _ (test : ℕ → Bool) where
             }
         | inr none ↦ next-last i n more none
       ]
+
+-- ---- how often each number comes
+
+-- among 0, .., n - 1 no number comes twice
+pub tally-once : (n k : ℕ) → tally n (eqb k) ≤ 1
+tally-once n k =
+    elim (lt-or-le k n) [
+      | inl below ↦ omega (arith, sum-one n k 1 below)
+      | inr past ↦ omega (arith, tally-none (eqb k) n (λ j less. ne-eqb k j (λ same. omega arith)))
+    ]
 
 -- of i numbers that are all below n, each is counted with its equals
 pub tally-shares : (n i : ℕ) (f : ℕ → ℕ) → ((j : ℕ) → j < i → f j < n)

@@ -38,3 +38,4 @@ pub mod HigherLaws
 pub mod ResponseEdges
 pub mod EdgeExamples
 pub mod PeakStart
+pub mod ScheduleLaws

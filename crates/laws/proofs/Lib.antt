@@ -2,6 +2,7 @@ pub mod Adding
 pub mod Cases
 pub mod Countdown
 pub mod Every
+pub mod Falling
 pub mod Fill
 pub mod GateLaws
 pub mod LastLaws

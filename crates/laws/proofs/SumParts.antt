@@ -1,13 +1,13 @@
 -- Two sums compared part by part.
 -- Assumes nothing.
-use mathlib.Core.Path.{_≡_, sym, ap, _∙_}
+use mathlib.Core.Path.{_≡_, refl, sym, ap, _∙_}
 use mathlib.Core.Logic.{inl, inr}
 use Prim.Native.Nat.{ℕ, zero, suc, _+_, _≤_, _<_}
 use native.Mathlib.Nat.{le-refl, le-step}
 use native.Mathlib.Omega.{arith}
 use Rattle.laws.specs.Sums.{sum}
 use Rattle.laws.proofs.Cases.{lt-or-le, lt-or-last, below-suc}
-use Rattle.laws.proofs.SumLaws.{sum-zero, sum-suc, sum-mono, sum-cong, sum-longer}
+use Rattle.laws.proofs.SumLaws.{sum-zero, sum-suc, sum-mono, sum-cong, sum-none, sum-longer}
 
 -- one summand is larger by x, the others are the same
 pub sum-raised : (n k x : ℕ) (f g : ℕ → ℕ) → k < n → g k ≡ f k + x
@@ -77,3 +77,7 @@ sum-larger (suc n) f g more =
           let below = sum-larger n f g (omega (arith, sum-suc n f, sum-suc n g)) in
           record { place = below .place; inside = le-step (below .inside); more = below .more }
     ]
+
+-- and one that is not 0 has one that is not 0
+pub sum-some : (n : ℕ) (f : ℕ → ℕ) → 0 < sum n f → Larger n (λ k. 0) f
+sum-some n f some = sum-larger n (λ k. 0) f (omega (arith, sum-none n (λ k. 0) (λ k inside. refl)))

@@ -39,3 +39,4 @@ pub mod ResponseEdges
 pub mod EdgeExamples
 pub mod PeakStart
 pub mod ScheduleLaws
+pub mod ServiceLaws

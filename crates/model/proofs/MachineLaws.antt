@@ -1,16 +1,14 @@
 -- The machine tick by tick: at most one unit a tick, and only to an arrived, unfinished job that none such precedes.
 -- Assumes nothing.
 use mathlib.Core.Path.{_≡_, refl, sym, _∙_}
-use mathlib.Core.Logic.{inl, inr}
 use mathlib.Core.Bool.{true, false≢true}
-use Prim.Native.Nat.{ℕ, zero, suc, _+_, _≤_, _<_}
+use Prim.Native.Nat.{ℕ, suc, _+_, _≤_, _<_}
 use native.Mathlib.Omega.{arith}
-use native.Mathlib.Nat.{le-refl, le-trans}
 use native.Mathlib.Decide.{ℕ-discrete}
 use lib.Dec.{leb, ltb}
 use borrow.Author.Tests.{leb-true, ltb-true, le-leb, lt-ltb, eq-eqb, ne-eqb}
 use Rattle.laws.specs.Search.{Found, at, nowhere}
-use Rattle.laws.proofs.Cases.{lt-or-le}
+use Rattle.laws.proofs.Falling.{falling-mono}
 use Rattle.laws.proofs.Every.{and-true-left, and-true-right}
 use Rattle.model.specs.Jobs.{Jobs}
 use Rattle.model.specs.Machine.{Order, sooner, ready, chosen, give, left-at}
@@ -125,15 +123,4 @@ module _ (jobs : Jobs) (before : Order) where
       rw (left-step t k) (give-falls left (chosen jobs before t left) k)
 
   pub left-mono : (t u k : ℕ) → t ≤ u → left-at jobs before u k ≤ left-at jobs before t k
-  left-mono t zero k later = rw (none later) (le-refl _)
-    where
-      none : t ≤ 0 → t ≡ 0
-      none later = omega arith
-  left-mono t (suc u) k later =
-      elim (lt-or-le u t) [
-        | inl now ↦ rw (same now) (le-refl _)
-        | inr earlier ↦ le-trans (left-falls u k) (left-mono t u k earlier)
-      ]
-    where
-      same : u < t → t ≡ suc u
-      same now = omega arith
+  left-mono t u k = falling-mono (λ s. left-at jobs before s k) (λ s. left-falls s k) t u

@@ -40,3 +40,5 @@ pub mod EdgeExamples
 pub mod PeakStart
 pub mod ScheduleLaws
 pub mod ServiceLaws
+pub mod OpenLaws
+pub mod BusyLaws

@@ -42,3 +42,5 @@ pub mod ScheduleLaws
 pub mod ServiceLaws
 pub mod OpenLaws
 pub mod BusyLaws
+pub mod MachineService
+pub mod EarliestLaws

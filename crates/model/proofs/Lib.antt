@@ -44,3 +44,4 @@ pub mod OpenLaws
 pub mod BusyLaws
 pub mod MachineService
 pub mod EarliestLaws
+pub mod MissLaws

@@ -45,3 +45,4 @@ pub mod BusyLaws
 pub mod MachineService
 pub mod EarliestLaws
 pub mod MissLaws
+pub mod JobExamples

@@ -1,0 +1,78 @@
+-- Small jobs that meet what the laws about jobs ask: B's list, of which too much is due by 2, and one job of K6's
+-- table, which passes with window 1. Jobs are written (arrive, due, amount).
+-- Assumes nothing.
+use mathlib.Core.Bool.{_&&_}
+use mathlib.Core.Path.{_≡_, refl}
+use Prim.Native.Nat.{ℕ, zero, suc, _+_, _-_, _≤_, _<_}
+use native.Mathlib.Nat.{le-trans}
+use native.Mathlib.Omega.{arith}
+use lib.Dec.{leb, ltb, lit<}
+use Rattle.laws.specs.Sums.{sum}
+use Rattle.laws.proofs.TallyLaws.{tally-most}
+use Rattle.model.specs.Jobs.{Jobs}
+use Rattle.model.specs.Machine.{sooner, pick, left-at}
+use Rattle.model.specs.Schedule.{units, Unfinished, due-within, Too-much}
+use Rattle.model.specs.Service.{Service, every-job, came, open-work, Busy, Passes}
+use Rattle.model.proofs.OrderLaws.{sooner-strict}
+use Rattle.model.proofs.MachineService.{machine-serves, machine}
+use Rattle.model.proofs.EarliestLaws.{sooner-done}
+
+-- ---- B's list: (0,2,2) of task 0 and (0,2,1) of task 1
+
+abbrev pub two-jobs : Jobs
+two-jobs = record { count = 2; task = λ k. k; arrive = λ k. 0; due = λ k. 2; amount = λ k. 2 - k }
+
+abbrev pub two-run : Service two-jobs
+two-run = machine two-jobs (sooner two-jobs) (sooner-strict two-jobs)
+
+pub record Too-many : Type 0 where
+  pub too-much : Too-much two-jobs 0 2
+  -- the machine's own schedule leaves job 1 short
+  pub unfinished : Unfinished two-jobs (machine-serves two-jobs (sooner two-jobs))
+  pub is-second : unfinished .job ≡ 1
+  -- and all jobs are busy from tick 0 on
+  pub busy-all : Busy two-run every-job 2
+  pub from-start : busy-all .from ≡ 0
+
+-- what holds of 1 and of 2
+one-and-two : (P : ℕ → Type 0) → P 1 → P 2 → (t : ℕ) → 0 < t → t ≤ 2 → P t
+one-and-two P one two zero some within = absurd (omega arith)
+one-and-two P one two (suc zero) some within = one
+one-and-two P one two (suc (suc zero)) some within = two
+one-and-two P one two (suc (suc (suc t))) some within = absurd (omega arith)
+
+pub too-many : Too-many
+unfolding due-within units open-work came left-at pick sooner sum
+too-many =
+    record {
+      too-much = lit< tt;
+      unfinished = record { job = 1; inside = lit< tt; short = lit< tt };
+      is-second = refl;
+      busy-all = record {
+        from = 0;
+        before = lit< tt;
+        clear = refl;
+        after = one-and-two (λ t. 0 < open-work two-run every-job t) (lit< tt) (lit< tt);
+        more = one-and-two (λ x. x - 0 < came two-jobs every-job 0 x) (lit< tt) (lit< tt);
+      };
+      from-start = refl;
+    }
+
+-- ---- K6's table: (0,1,1)
+
+abbrev pub one-job : Jobs
+one-job = record { count = 1; task = λ k. 0; arrive = λ k. 0; due = λ k. 1; amount = λ k. 1 }
+
+pub one-passes : Passes one-job 1
+unfolding came due-within
+one-passes =
+    record {
+      lasts = λ k inside. lit< tt;
+      from = omega arith;
+      closes = λ a. tally-most (λ k. leb a 0 && ltb 0 (a + 1)) 1;
+      calm = λ a t some within. le-trans (tally-most (λ k. leb a 0 && leb 1 (a + t)) 1) some;
+    }
+
+-- so it is done at 1
+pub one-done : left-at one-job (sooner one-job) 1 0 ≡ 0
+one-done = sooner-done one-job one-passes 0 (lit< tt)

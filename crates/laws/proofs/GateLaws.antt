@@ -9,9 +9,6 @@ use Rattle.laws.specs.Sums.{only}
 pub only-passed : (test : Bool) (x : ℕ) → test ≡ true → only test x ≡ x
 only-passed test x passes = rw passes
 
-pub only-failed : (test : Bool) (x : ℕ) → test ≡ false → only test x ≡ 0
-only-failed test x fails = rw fails
-
 pub only-most : (test : Bool) (x : ℕ) → only test x ≤ x
 only-most true x = omega arith
 only-most false x = omega arith

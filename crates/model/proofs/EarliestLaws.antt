@@ -51,13 +51,9 @@ module _ {jobs : Jobs} (service : Service jobs) where
     all-near =
         elim (lt-or-le d (all .from + window)) [
           | inl near ↦ near
-          | inr far ↦ absurd (
-              omega (
-                arith,
-                passes .closes (all .from),
-                all .more (all .from + window) (omega (arith, passes .from)) far,
-              )
-              )
+          | inr far ↦
+              let more = all .more (all .from + window) (omega (arith, passes .from)) far in
+              absurd (omega (arith, passes .closes (all .from)))
         ]
 
     module _ (due : Busy service (due-up-to jobs d) d) where
@@ -65,14 +61,9 @@ module _ {jobs : Jobs} (service : Service jobs) where
       class-later : all .from ≤ due .from
       class-later =
           elim (lt-or-le (due .from) (all .from)) [
-            | inl less ↦ absurd (
-                omega (
-                  arith,
-                  all .clear,
-                  open-every (due-up-to jobs d) (all .from),
-                  due .after (all .from) less (omega (arith, all .before)),
-                )
-                )
+            | inl less ↦
+                let some = due .after (all .from) less (omega (arith, all .before)) in
+                absurd (omega (arith, all .clear, open-every (due-up-to jobs d) (all .from)))
             | inr later ↦ later
           ]
 

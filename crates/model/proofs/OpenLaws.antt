@@ -32,11 +32,11 @@ came-one true q x a amount later =
 -- what a job has left is open, or the job has not arrived and is whole
 left-one : (in-class : Bool) (t a left amount : ℕ) → (t ≤ a → left ≡ amount)
     → only in-class left ≡ only (in-class && ltb a t) left + only (in-class && leb t a) amount
-left-one false t a left amount unused = refl
-left-one true t a left amount unused =
+left-one false t a left amount untouched = refl
+left-one true t a left amount untouched =
     elim (lt-or-le a t) [
       | inl before ↦ simp (lt-ltb a t before, lt-leb t a before) (omega arith)
-      | inr after ↦ simp (le-ltb a t after, le-leb t a after) (omega (arith, unused after))
+      | inr after ↦ simp (le-ltb a t after, le-leb t a after) (omega (arith, untouched after))
     ]
 
 module _ {jobs : Jobs} (service : Service jobs) (class : Class) where

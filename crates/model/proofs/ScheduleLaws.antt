@@ -20,14 +20,15 @@ use Rattle.model.specs.Jobs.{Jobs}
 use Rattle.model.specs.Schedule.{Schedule, is-for, units, Unfinished, due-within, Too-much}
 
 -- a tick goes to one job at most
-one-job : (n : ℕ) (served : Found) → tally n (is-for served) ≤ 1
-one-job n (at b) = omega (arith, tally-once n b)
-one-job n nowhere = omega (arith, tally-none (is-for nowhere) n (λ k inside. refl))
+is-for-once : (n : ℕ) (served : Found) → tally n (is-for served) ≤ 1
+is-for-once n (at b) = omega (arith, tally-once n b)
+is-for-once n nowhere = omega (arith, tally-none (is-for nowhere) n (λ k inside. refl))
 
 -- and to none where it does not count
-one-counted : (n : ℕ) (served : Found) (counts : Bool) → sum n (λ k. only (counts && is-for served k) 1) ≤ only counts 1
-one-counted n served true = one-job n served
-one-counted n served false = omega (arith, sum-none n (λ k. 0) (λ k inside. refl))
+counted-once : (n : ℕ) (served : Found) (counts : Bool)
+    → sum n (λ k. only (counts && is-for served k) 1) ≤ only counts 1
+counted-once n served true = is-for-once n served
+counted-once n served false = omega (arith, sum-none n (λ k. 0) (λ k inside. refl))
 
 module _ (schedule : Schedule) where
   pub units-start : (k a : ℕ) → units schedule k a 0 ≡ 0
@@ -64,7 +65,7 @@ module _ (schedule : Schedule) where
         arith,
         sum-swap n b (λ k t. only (leb a t && is-for (schedule t) k) 1),
         sum-mono b (λ t. sum n (λ k. only (leb a t && is-for (schedule t) k) 1)) (λ t. only (leb a t) 1)
-            (λ t below. one-counted n (schedule t) (leb a t)),
+            (λ t below. counted-once n (schedule t) (leb a t)),
         tally-from a b,
       )
 

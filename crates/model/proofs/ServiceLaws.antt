@@ -19,9 +19,9 @@ use Rattle.model.specs.Service.{Service}
 use Rattle.model.proofs.ScheduleLaws.{units-start, units-suc}
 
 -- a tick that counts for job k went to it
-for-is : (served : Found) (k : ℕ) → is-for served k ≡ true → served ≡ at k
-for-is (at b) k counts = ap at (eqb-true b k counts)
-for-is nowhere k counts = absurd (false≢true counts)
+is-for-at : (served : Found) (k : ℕ) → is-for served k ≡ true → served ≡ at k
+is-for-at (at b) k counts = ap at (eqb-true b k counts)
+is-for-at nowhere k counts = absurd (false≢true counts)
 
 -- what the tick gave and what is left after it are what was left before it
 give-back : (served : Found) (left : ℕ → ℕ) (k : ℕ) → (served ≡ at k → 0 < left k)
@@ -57,7 +57,7 @@ module _ {jobs : Jobs} (service : Service jobs) where
 
     -- a tick that goes to a job comes no earlier than it
     arrived : (t : ℕ) → is-for (service .serves t) k ≡ true → jobs .arrive k ≤ t
-    arrived t counts = service .ready t k (for-is (service .serves t) k counts) .arrived
+    arrived t counts = service .ready t k (is-for-at (service .serves t) k counts) .arrived
 
     -- a job that has not arrived is whole
     pub whole : (t : ℕ) → t ≤ jobs .arrive k → service .left t k ≡ jobs .amount k

@@ -36,7 +36,7 @@ use Rattle.desk.specs.OverloadMeaning.{Overloaded-at, Refused-with, tabl
 
 -- ---- the verdict on bytes
 
-over-at : {s : List ℕ} → WellFormed s → {t : ℕ} {m : ℤ} {first : List ℕ}
+pub over-at : {s : List ℕ} → WellFormed s → {t : ℕ} {m : ℤ} {first : List ℕ}
     → Overloaded horizon (table-of s) t m first → Overloaded-at s t
 over-at well means =
     record {
@@ -74,7 +74,7 @@ module _ (s : List ℕ) (bytes : Bytes s) where
     unfolding verdict-asked
     over-judged = rw (good-read s (over .table-good), over-verdict)
 
-    over-shows : Shows (table-of s) t (list-at (table-of s) t)
+    pub over-shows : Shows (table-of s) t (list-at (table-of s) t)
     over-shows =
         let good = proper (over .table-good) in
         list-shows good t (over .within) (verdict-over good over-verdict .over)

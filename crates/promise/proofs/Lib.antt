@@ -6,3 +6,5 @@ pub mod WritingExample
 pub mod ResponseExample
 pub mod OneAnswerLaws
 pub mod JudgedLaws
+pub mod PassedLaws
+pub mod OverloadedLaws

@@ -8,3 +8,4 @@ pub mod OneAnswerLaws
 pub mod JudgedLaws
 pub mod PassedLaws
 pub mod OverloadedLaws
+pub mod ExactLaws

@@ -9,3 +9,4 @@ pub mod JudgedLaws
 pub mod PassedLaws
 pub mod OverloadedLaws
 pub mod ExactLaws
+pub mod SumExact

@@ -1,5 +1,5 @@
--- Exact refusals: for each question of the desk, which refusal it gets, said of the bytes and numbers alone, in the order
--- of document 01, "When the desk says no"; and that it gets it exactly then.
+-- Exact refusals: for each question of the desk, which refusal it gets, said of the bytes and numbers alone, in the
+-- order of document 01, "When the desk says no"; and that it gets it exactly then.
 -- Assumes nothing.
 use Prim.Native.Nat.{ℕ, _≤_, _<_}
 use mathlib.Core.Path.{_≡_}
@@ -67,7 +67,8 @@ pub record Exact-refusals (s : List ℕ) : Type 0 where
   -- ".. or 9 then 8"
   pub response : (k i : ℕ) → Exactly (Response.Refused-with s k i) (response-asked s k i)
   -- ".. or 13 then 12"
-  pub overload : (buffer : List ℕ) (place : ℕ) → Exactly (Writing.Refused-with s buffer place) (overload-asked s buffer place)
+  pub overload : (buffer : List ℕ) (place : ℕ)
+      → Exactly (Writing.Refused-with s buffer place) (overload-asked s buffer place)
   -- ".. or, for a list, length, then records in order, in each record 10 before 11"
   pub check : (list : List ℕ) → Exactly (List-of.Refused-with s list) (list-asked s list)
   pub load : (list : List ℕ) → Exactly (List-of.Refused-with s list) (load-asked s list)

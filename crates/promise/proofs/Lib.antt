@@ -10,3 +10,4 @@ pub mod PassedLaws
 pub mod OverloadedLaws
 pub mod ExactLaws
 pub mod SumExact
+pub mod RefusalLaws

@@ -11,3 +11,4 @@ pub mod OverloadedLaws
 pub mod ExactLaws
 pub mod SumExact
 pub mod RefusalLaws
+pub mod RefusalExamples

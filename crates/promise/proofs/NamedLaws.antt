@@ -59,7 +59,7 @@ quick s (overload-into buffer place) = left-by buffer place (quick-list s buffer
 quick s (response-to task frame) = response-asked s task frame
 quick s (first-values many task frame) = values s many task frame
 
-is-byte : ℕ → Bool
+unfoldable pub is-byte : ℕ → Bool
 is-byte x = ltb x 256
 
 bytes-are : (s : List ℕ) → T (every is-byte s) → (i : ℕ) → getD s i 0 < 256
@@ -129,7 +129,7 @@ no-row = record { bytes = B; question = demand-of 0 0; says = answered 0 }
 
 -- ---- A's and B's bytes are bytes; and K5 by itself, row 14
 
-are-bytes : (s : List ℕ) → T (every is-byte s) → Bytes s
+pub are-bytes : (s : List ℕ) → T (every is-byte s) → Bytes s
 are-bytes s all i = record { fits = bytes-are s all i }
 
 pub A-bytes : Bytes A

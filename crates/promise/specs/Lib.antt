@@ -6,3 +6,4 @@ pub mod OneAnswer
 pub mod Numbers
 pub mod Promises
 pub mod Demands
+pub mod Cases

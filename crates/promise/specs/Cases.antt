@@ -1,0 +1,84 @@
+-- For each refusal of document 01, "When the desk says no", questions that get it, in each way that the document names;
+-- and what the exact refusals name for a question.
+-- Assumes nothing.
+use mathlib.Core.List.{List, [], _∷_, _++_}
+use Prim.Native.Nat.{ℕ, zero, suc}
+use Rattle.table.specs.Refusals as Table
+use Rattle.desk.specs.Refusals as List-of
+use Rattle.desk.specs.ResponseMeaning as Response
+use Rattle.desk.specs.OverloadMeaning as Writing
+use Rattle.promise.specs.Tables.{rec, sporadic, A, B, req, twenty}
+use Rattle.promise.specs.Asked.{Question, demand-of, verdict-on, replay-with, overload-into, response-to, first-values}
+use Rattle.promise.specs.Refusals.{Task-refused}
+
+-- of the bytes s; the values of a recurrence are never refused
+abbrev pub Names : List ℕ → Question → ℕ → ℕ → Type 0
+Names s (demand-of k t) = Task-refused s k t
+Names s verdict-on = Table.Refused-with s
+Names s (replay-with list) = List-of.Refused-with s list
+Names s (overload-into buffer place) = Writing.Refused-with s buffer place
+Names s (response-to k i) = Response.Refused-with s k i
+Names s (first-values many k i) = λ number index. ⊥
+
+-- the question, asked of the bytes, is refused with this number and this record
+pub record Case : Type 0 where
+  pub bytes : List ℕ
+  pub question : Question
+  pub number : ℕ
+  pub index : ℕ
+
+abbrev pub refuses : List ℕ → Question → ℕ → ℕ → Case
+refuses s question number index = record { bytes = s; question = question; number = number; index = index }
+
+abbrev no-table : List ℕ → ℕ → ℕ → Case
+no-table s number index = refuses s verdict-on number index
+
+abbrev no-list : List ℕ → ℕ → ℕ → Case
+no-list list number index = refuses B (replay-with list) number index
+
+-- n times the bytes s
+unfoldable pub times : ℕ → List ℕ → List ℕ
+times zero s = []
+times (suc n) s = s ++ times n s
+
+-- n sporadic tasks
+unfoldable pub tasks : ℕ → List ℕ
+tasks zero = []
+tasks (suc n) = tasks n ++ sporadic n 1 1 1
+
+unfoldable pub cases : List Case
+cases =
+    -- 1: "table length 0, above 512, or not a multiple of 8"
+    no-table [] 1 0 ∷ no-table (times 65 (sporadic 0 1 1 1)) 1 0 ∷ no-table (0 ∷ []) 1 0
+    -- 2: "task number above 15, or not the run described above"
+    ∷ no-table (tasks 17) 2 16 ∷ no-table (sporadic 1 1 1 1) 2 0 ∷ no-table (sporadic 0 1 1 1 ++ sporadic 2 1 1 1) 2 1
+    -- 3: "kind not 1 to 3, differs inside a task, or second frame of kind 1"
+    ∷ no-table (rec 0 4 1 1 1) 3 0 ∷ no-table (rec 0 3 1 1 1 ++ rec 0 2 1 1 1) 3 1
+    ∷ no-table (sporadic 0 1 1 1 ++ sporadic 0 1 1 1) 3 1
+    -- 4: "seventeenth frame of a task"
+    ∷ no-table (times 17 (rec 0 3 1 1 1)) 4 16
+    -- 5: "E, D or P is zero"
+    ∷ no-table (rec 0 3 0 1 1) 5 0 ∷ no-table (rec 0 3 1 0 1) 5 0 ∷ no-table (rec 0 3 1 1 0) 5 0
+    -- 6: "kind 2 with D not P, or P unlike the task's first"
+    ∷ no-table (rec 0 2 1 1 2) 6 0 ∷ no-table (rec 0 2 1 1 1 ++ rec 0 2 1 2 2) 6 1
+    -- 7: "t or a window asked about above 65,536"
+    ∷ refuses A (demand-of 0 65537) 7 0
+    -- 8: "some frame of the table has D above its P", and record 2 is the "first such record"
+    ∷ refuses A (response-to 0 0) 8 2
+    -- 9: "no such task or frame"; "9 before 7", "9 then 8"
+    ∷ refuses A (demand-of 1 0) 9 0 ∷ refuses A (response-to 1 0) 9 0
+    ∷ refuses A (demand-of 1 65537) 9 0 ∷ refuses A (response-to 0 4) 9 0
+    -- 10: "list length not a multiple of 8 or above 1,024 (index 0)"
+    ∷ no-list (0 ∷ []) 10 0 ∷ no-list (times 129 (req 0 0 0)) 10 0
+    -- ".. pad not zero, unknown task or frame, arrival too large, order broken"
+    ∷ no-list (0 ∷ 0 ∷ 1 ∷ 0 ∷ 0 ∷ 0 ∷ 0 ∷ 0 ∷ []) 10 0 ∷ no-list (req 2 0 0) 10 0 ∷ no-list (req 1 1 0) 10 0
+    ∷ no-list (0 ∷ 0 ∷ 0 ∷ 0 ∷ 0 ∷ 0 ∷ 1 ∷ 0 ∷ []) 10 0 ∷ no-list (req 1 0 0 ++ req 0 0 0) 10 1
+    -- 11: "next request has the wrong frame or comes too soon"; "10 before 11"
+    ∷ no-list (req 0 0 0 ++ req 0 2 3) 11 1 ∷ no-list (req 0 0 0 ++ req 0 1 2) 11 1
+    ∷ no-list (req 0 0 1 ++ req 0 2 0) 10 1
+    -- 12: "the place lies past the buffer's end, or the list has more bytes than the buffer has from there"
+    ∷ refuses B (overload-into [] 1) 12 0 ∷ refuses B (overload-into twenty 5) 12 0
+    -- "Tables are tested first"
+    ∷ refuses [] (demand-of 1 65537) 1 0 ∷ refuses [] (response-to 1 0) 1 0 ∷ refuses [] (replay-with (0 ∷ [])) 1 0
+    ∷ refuses [] (overload-into [] 1) 1 0
+    ∷ []

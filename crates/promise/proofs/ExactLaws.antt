@@ -5,6 +5,7 @@ use Prim.Native.Nat.{ℕ}
 use mathlib.Core.Bool.{Bool, true, false}
 use mathlib.Core.Path.{_≡_, refl, subst}
 use mathlib.Core.List.{List}
+use native.Mathlib.Omega.{arith}
 use Rattle.laws.proofs.Tests.{Catches}
 use Rattle.model.specs.Task as Model
 use Rattle.model.specs.Answer.{Answer, answered, refused}
@@ -30,6 +31,12 @@ exactly Told {said} refuses told =
     which : (x : Answer _) → said ≡ x → ((number index : ℕ) → Told (refused number index) → ⊥) → Answered said
     which (answered value) is none = record { value = value; is = is }
     which (refused number index) is none = absurd (none number index (subst Told is told))
+
+-- so where it is answered no refusal is named
+pub answered-none : {A : Type 0} {Names : ℕ → ℕ → Type 0} {said : Answer A} → Exactly Names said
+    → {value : A} → said ≡ answered value → (number index : ℕ) → Names number index → ⊥
+answered-none exact is number index named =
+    let apart : _≡_ {A = ℕ} 0 1 = cc (exact .refuses number index named) in absurd (omega arith)
 
 -- where nothing is to be told of an answer
 abbrev pub Named : {A : Type 0} → (ℕ → ℕ → Type 0) → Answer A → Type 0

@@ -11,4 +11,5 @@ pub mod OverloadedLaws
 pub mod ExactLaws
 pub mod SumExact
 pub mod RefusalLaws
+pub mod CaseLaws
 pub mod RefusalExamples

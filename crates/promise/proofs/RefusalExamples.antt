@@ -1,85 +1,96 @@
--- What the exact refusals name can be met: every case of specs/Cases.antt is refused as it says, computed at once, so by
--- the promise its refusal is named for it. And 13, which no search of a few steps finds, stands after them.
+-- The words of the exact refusals can be met: from the table of cases a record that breaks each rule, and 7, 9 and 13
+-- of A; for 8 and 12 see ResponseExample and WritingExample. And bytes for which no refusal is named.
 -- Assumes nothing.
-use mathlib.Core.Bool.{Bool, false, _&&_}
-use mathlib.Core.Path.{_≡_}
-use mathlib.Core.List.{List, [], _∷_}
-use Prim.Native.Nat.{ℕ, _<_}
-use lib.Dec.{T, lit<, lit≤}
+use mathlib.Core.Logic.{inl, inr}
+use mathlib.Core.List.{List, [], _++_}
+use Prim.Native.Nat.{ℕ, suc, _<_}
+use native.Mathlib.Omega.{arith}
+use lib.Dec.{lit<, lit≤}
 use lib.ListN.{length, getD}
-use Rattle.laws.specs.Sums.{sum, greatest}
-use Rattle.laws.specs.Search.{least-from, up-to-last}
-use Rattle.laws.specs.Reader.{read-on, read-all}
-use Rattle.laws.proofs.Every.{both-left, both-right, every, every-at}
-use Rattle.model.specs.Demand.{frame, offset, counted, lowest, all-demands}
-use Rattle.model.specs.Request.{last-arrival}
-use Rattle.model.specs.Verdict.{horizon, overloads, first-overload, overloaded-at, verdict}
-use Rattle.model.specs.Weave.{foremost, taken-by, next-at, weave}
-use Rattle.model.specs.Overload.{requests-by, overload-list}
-use Rattle.model.specs.Answer.{Answer, refused}
-use Rattle.table.specs.Bytes.{Bytes, record-of}
-use Rattle.table.specs.Reader.{reading-of}
-use Rattle.table.specs.TableOf.{records-before, records-of, task-of}
-use Rattle.requests.specs.Entry.{entry-of, bytes-to}
-use Rattle.requests.specs.Reader.{check-of}
-use Rattle.overload.specs.Place.{placed}
-use Rattle.response.specs.Deadlines.{first-above}
-use Rattle.desk.specs.Questions.{demand-asked, verdict-asked, replay-asked}
-use Rattle.desk.specs.Overload.{overload-asked}
-use Rattle.desk.specs.Response.{response-asked}
-use Rattle.promise.specs.Tables.{A, B, twenty}
-use Rattle.promise.specs.Asked.{Question, demand-of, verdict-on, replay-with, overload-into, response-to, first-values}
-use Rattle.promise.specs.Cases.{Names, Case, times, tasks, cases}
-use Rattle.promise.proofs.SameLaws.{same-answer, same-answer-is}
-use Rattle.promise.proofs.NamedLaws.{is-byte, are-bytes}
+use Rattle.model.specs.Verdict.{horizon}
+use Rattle.table.specs.Bytes.{record-of}
+use Rattle.table.specs.TableOf.{table-of}
+use Rattle.table.specs.Refusals as Table
+use Rattle.requests.specs.Refusals as Requests
+use Rattle.desk.specs.Refusals as List-of
+use Rattle.desk.specs.OverloadMeaning as Writing
+use Rattle.promise.specs.Tables.{rec, sporadic, A, B, req, B-list}
+use Rattle.promise.specs.Asked.{verdict-on}
+use Rattle.promise.specs.Refusals.{Time-refused, Task-refused, refuses-9, refuses-7}
+use Rattle.promise.specs.Cases.{Is-named, refuses, times, cases}
+use Rattle.promise.proofs.NamedLaws.{A-bytes, B-bytes, K5}
+use Rattle.promise.proofs.WritingExample.{A-calm, A-refused}
+use Rattle.promise.proofs.ExactLaws.{answered-none}
 use Rattle.promise.proofs.RefusalLaws.{exact-refusals}
+use Rattle.promise.proofs.CaseLaws.{cases-named}
 
--- the answer is this refusal
-gets : {A : Type 0} → ℕ → ℕ → Answer A → Bool
-gets number index said = same-answer (λ a b. false) said (refused number index)
+-- case i of the table
+case-named : (i : ℕ) → i < length cases → Is-named (getD cases i (refuses [] verdict-on 0 0))
+case-named i below = cases-named i below (refuses [] verdict-on 0 0)
 
-gets-is : {A : Type 0} (number index : ℕ) (said : Answer A) → T (gets number index said)
-    → said ≡ refused number index
-unfolding gets
-gets-is number index said = same-answer-is (λ a b. false) (λ a b h. absurd h) said (refused number index)
+-- ---- 2 to 6: what is above 1 is a record's
 
-asked : List ℕ → Question → ℕ → ℕ → Bool
-asked s (demand-of k t) number index = gets number index (demand-asked s k t)
-asked s verdict-on number index = gets number index (verdict-asked s)
-asked s (replay-with list) number index = gets number index (replay-asked s list)
-asked s (overload-into buffer place) number index = gets number index (overload-asked s buffer place)
-asked s (response-to k i) number index = gets number index (response-asked s k i)
-asked s (first-values many k i) number index = false
+table-breaks : {s : List ℕ} {number index : ℕ} → Table.Refused-with s (suc (suc number)) index
+    → Table.Breaks s index (suc (suc number))
+table-breaks (inl bad) = absurd (omega (arith, bad .number-is))
+table-breaks (inr bad) = bad .breaks
 
-module _ (s : List ℕ) (bytes : Bytes s) (n i : ℕ) where
-  asked-names : (q : Question) → T (asked s q n i) → Names s q n i
-  unfolding asked
-  asked-names (demand-of k t) h = exact-refusals s bytes .demand k t .only n i (gets-is n i (demand-asked s k t) h)
-  asked-names verdict-on h = exact-refusals s bytes .verdict .only n i (gets-is n i (verdict-asked s) h)
-  asked-names (replay-with list) h =
-      exact-refusals s bytes .replay list .only n i (gets-is n i (replay-asked s list) h)
-  asked-names (overload-into buffer place) h =
-      exact-refusals s bytes .overload buffer place .only n i (gets-is n i (overload-asked s buffer place) h)
-  asked-names (response-to k j) h =
-      exact-refusals s bytes .response k j .only n i (gets-is n i (response-asked s k j) h)
-  asked-names (first-values many k j) h = absurd h
+pub skips-task : Table.Breaks (sporadic 0 1 1 1 ++ sporadic 2 1 1 1) 1 2
+unfolding cases
+skips-task = table-breaks (case-named 5 (lit< tt))
 
-right : Case → Bool
-right c = every is-byte (c .bytes) && asked (c .bytes) (c .question) (c .number) (c .index)
+pub kind-four : Table.Breaks (rec 0 4 1 1 1) 0 3
+unfolding cases
+kind-four = table-breaks (case-named 6 (lit< tt))
 
-right-names : (c : Case) → T (right c) → Names (c .bytes) (c .question) (c .number) (c .index)
-unfolding right
-right-names c h =
-    let all = every is-byte (c .bytes) in
-    let it = asked (c .bytes) (c .question) (c .number) (c .index) in
-    asked-names (c .bytes) (are-bytes (c .bytes) (both-left all it h)) (c .number) (c .index) (c .question)
-    (both-right all it h)
+pub seventeenth : Table.Breaks (times 17 (rec 0 3 1 1 1)) 16 4
+unfolding cases
+seventeenth = table-breaks (case-named 9 (lit< tt))
 
-all-right : T (every right cases)
-unfolding cases right asked gets is-byte every same-answer A B twenty times tasks
-    demand-asked verdict-asked response-asked replay-asked overload-asked
-    reading-of read-all read-on record-of records-before records-of task-of
-    check-of entry-of last-arrival first-above horizon sum least-from frame
-    verdict first-overload overloads overloaded-at all-demands greatest counted offset lowest
-    placed overload-list weave next-at taken-by foremost requests-by up-to-last bytes-to
-all-right = tt
+pub zero-E : Table.Breaks (rec 0 3 0 1 1) 0 5
+unfolding cases
+zero-E = table-breaks (case-named 10 (lit< tt))
+
+pub unlike-first : Table.Breaks (rec 0 2 1 1 1 ++ rec 0 2 1 2 2) 1 6
+unfolding cases
+unlike-first = table-breaks (case-named 14 (lit< tt))
+
+-- ---- 7 and 9 of A, which has one task
+
+pub A-far : Time-refused A 65537 7 0
+unfolding horizon
+A-far = refuses-7 (A-calm .table-good) (lit< tt)
+
+pub A-far-task : Task-refused A 0 65537 7 0
+unfolding A record-of horizon
+A-far-task = refuses-7 (A-calm .table-good) (lit< tt) (lit< tt)
+
+pub A-no-task : Task-refused A 1 65537 9 0
+unfolding A record-of
+A-no-task = refuses-9 (A-calm .table-good) (lit≤ tt)
+
+-- ---- B and its list are answered, so no refusal is named for them
+
+pub B-none : (number index : ℕ) → List-of.Refused-with B B-list number index → ⊥
+B-none = answered-none (exact-refusals B B-bytes .replay B-list) K5
+
+-- ---- 10 and 11: so a list's refusal is not B's; and what carries no 0 is a record's
+
+list-breaks : {list : List ℕ} {number index : ℕ} → List-of.Refused-with B list number (suc index)
+    → Requests.Breaks (table-of B) list (suc index) number
+list-breaks {number = number} {index} (inl bad) = absurd (B-none number (suc index) (inl bad))
+list-breaks (inr bad) =
+    elim (bad .list-bad) [ inl wrong ↦ absurd (omega (arith, wrong .index-is)) | inr broken ↦ broken .breaks ]
+
+pub order-broken : Requests.Breaks (table-of B) (req 1 0 0 ++ req 0 0 0) 1 10
+unfolding cases
+order-broken = list-breaks (case-named 27 (lit< tt))
+
+pub wrong-frame : Requests.Breaks (table-of B) (req 0 0 0 ++ req 0 2 3) 1 11
+unfolding cases
+wrong-frame = list-breaks (case-named 28 (lit< tt))
+
+-- ---- 13, and "13 then 12": A is not overloaded, and there is no room
+
+pub A-unwritten : Writing.Refused-with A [] 1 13 0
+A-unwritten = exact-refusals A A-bytes .overload [] 1 .only 13 0 (A-refused [] 1)

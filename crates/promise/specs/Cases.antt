@@ -27,6 +27,10 @@ pub record Case : Type 0 where
   pub number : ℕ
   pub index : ℕ
 
+-- and its refusal is the one that is named for it
+abbrev pub Is-named : Case → Type 0
+Is-named c = Names (c .bytes) (c .question) (c .number) (c .index)
+
 abbrev pub refuses : List ℕ → Question → ℕ → ℕ → Case
 refuses s question number index = record { bytes = s; question = question; number = number; index = index }
 

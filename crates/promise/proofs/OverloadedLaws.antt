@@ -1,7 +1,7 @@
 -- *Overloaded* keeps its promise: of the list that is written more is due by t than there are ticks, so no schedule
 -- finishes it, nor does the bench.
 -- Assumes nothing.
-use mathlib.Core.Path.{_≡_, sym, ap, _∙_}
+use mathlib.Core.Path.{_≡_, ap, _∙_}
 use mathlib.Core.List.{List}
 use Prim.Native.Nat.{ℕ}
 use native.Mathlib.Omega.{arith}

@@ -1,7 +1,7 @@
 -- *Passed* keeps its promise: the jobs of every legal list of a table that fits are such as the earliest-deadline
 -- machine finishes, and the bench is that machine.
 -- Assumes nothing.
-use mathlib.Core.Path.{_≡_, refl}
+use mathlib.Core.Path.{_≡_}
 use mathlib.Core.List.{List}
 use Prim.Native.Nat.{ℕ}
 use lib.IntN.{ℤ}

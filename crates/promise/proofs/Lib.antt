@@ -13,3 +13,5 @@ pub mod SumExact
 pub mod RefusalLaws
 pub mod CaseLaws
 pub mod RefusalExamples
+pub mod NumberLaws
+pub mod Kept

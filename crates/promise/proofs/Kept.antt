@@ -1,0 +1,21 @@
+-- The three demands are kept, of any bytes.
+-- Assumes nothing.
+use mathlib.Core.List.{List}
+use Prim.Native.Nat.{ℕ}
+use Rattle.table.specs.Bytes.{Bytes}
+use Rattle.promise.specs.Demands.{Demands}
+use Rattle.promise.proofs.RefusalLaws.{exact-refusals}
+use Rattle.promise.proofs.NumberLaws.{numbers}
+use Rattle.promise.proofs.PassedLaws.{passed}
+use Rattle.promise.proofs.OverloadedLaws.{overloaded-shown}
+use Rattle.promise.proofs.JudgedLaws.{judged-rightly}
+
+pub kept : (s : List ℕ) → Bytes s → Demands s
+kept s bytes =
+    record {
+      refusals = exact-refusals s bytes;
+      numbers = λ well. numbers s well bytes;
+      passed = passed s bytes;
+      overloaded = overloaded-shown s bytes;
+      judged = judged-rightly s bytes;
+    }

@@ -1,0 +1,62 @@
+-- The numbers are those of the definitions: what each question is answered where nothing is refused.
+-- Assumes nothing.
+use mathlib.Core.Path.{_≡_, _∙_}
+use mathlib.Core.List.{List}
+use Prim.Native.Nat.{ℕ, _≤_, _<_}
+use borrow.Author.Tests.{le-ltb, lt-leb}
+use Rattle.model.specs.Task.{Task, Table}
+use Rattle.model.specs.Demand.{demand, work, margin}
+use Rattle.model.specs.Verdict.{horizon, closing-window}
+use Rattle.model.specs.Request.{no-task}
+use Rattle.model.specs.Answer.{Answer, answered}
+use Rattle.table.specs.Bytes.{Bytes}
+use Rattle.table.specs.TableOf.{table-of}
+use Rattle.table.specs.WellFormed.{WellFormed}
+use Rattle.requests.specs.Entry.{list-of}
+use Rattle.requests.specs.Accepted.{Accepted}
+use Rattle.desk.specs.Questions.{refuse-if, too-far, one-task, counts, replays, demand-asked, work-asked, margin-asked, window-asked, list-asked}
+use Rattle.desk.proofs.ListExact.{good-answered, replay-means}
+use Rattle.desk.proofs.ResponseExact.{frame-answered}
+use Rattle.promise.specs.Numbers.{Replayed-rightly, Numbers}
+use Rattle.promise.proofs.ExactLaws.{table-asked}
+use Rattle.promise.proofs.JudgedLaws.{well-judged}
+use Rattle.promise.proofs.PassedLaws.{accepted-replayed}
+
+module _ (s : List ℕ) (well : WellFormed s) where
+  -- of one task at a time within the limit
+  one-answered : (sum : Task → ℕ → ℕ) (k t : ℕ) → k < table-of s .tasks → t ≤ horizon
+      → one-task sum s k t ≡ answered (sum (table-of s .task k) t)
+  one-answered sum k t known near =
+      table-asked s ask well ∙ rw (lt-leb (table-of s .tasks) k known, le-ltb horizon t near)
+    where
+      ask : Table → Answer ℕ
+      ask table = refuse-if (no-task table k) 9 (refuse-if (too-far t) 7 (answered (sum (table .task k) t)))
+
+  margin-answered : (t : ℕ) → t ≤ horizon → margin-asked s t ≡ answered (margin (table-of s) t)
+  unfolding margin-asked
+  margin-answered t near =
+      table-asked s (λ table. refuse-if (too-far t) 7 (answered (margin table t))) well ∙ rw (le-ltb horizon t near)
+
+  window-answered : window-asked s ≡ answered (closing-window horizon (table-of s))
+  unfolding window-asked
+  window-answered = table-asked s (λ table. answered (closing-window horizon table)) well
+
+  replayed : Bytes s → (list : List ℕ) → Accepted (table-of s) list → Replayed-rightly s list
+  replayed bytes list accepted =
+      let r = replays (table-of s) (list-of list) in
+      let is = accepted-replayed s list well accepted in
+      record { answer = r; is = is; says = replay-means s bytes list r is }
+
+  pub numbers : Bytes s → Numbers s
+  unfolding demand-asked work-asked list-asked
+  numbers bytes =
+      record {
+        demands = one-answered demand;
+        works = one-answered work;
+        margins = margin-answered;
+        window = window-answered;
+        verdict-is = well-judged s well;
+        responses = λ k i has. frame-answered s k i (record { table-good = well; has = has });
+        counts = λ list accepted. good-answered counts s list (record { table-good = well; list-good = accepted });
+        replays = replayed bytes;
+      }

@@ -15,3 +15,4 @@ pub mod CaseLaws
 pub mod RefusalExamples
 pub mod NumberLaws
 pub mod Kept
+pub mod CallerLaws

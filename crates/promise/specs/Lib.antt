@@ -7,3 +7,4 @@ pub mod Numbers
 pub mod Promises
 pub mod Demands
 pub mod Cases
+pub mod Callers

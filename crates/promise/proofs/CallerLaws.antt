@@ -1,4 +1,5 @@
--- What a caller of the code may rely on: its answer is read back as what document 01 says, and that is what is promised.
+-- What a caller of the code may rely on: its answer is read back as what document 01 says, and of that the promises
+-- are made.
 -- Assumes nothing.
 use mathlib.Core.Path.{_≡_, refl, sym, ap, subst, _∙_}
 use mathlib.Core.List.{List}
@@ -29,7 +30,6 @@ use Rattle.desk.specs.Refusals.{Told}
 use Rattle.desk.proofs.ListExact.{list-told}
 use Rattle.desk.proofs.WritingExact.{over-judged}
 use Rattle.desk.proofs.WritingLeft.{wrote-leaves}
-use Rattle.promise.specs.Promises.{No-schedule}
 use Rattle.promise.specs.Promises as Promise
 use Rattle.promise.specs.Callers.{Slice, Judges, Writes, Replays, Callers}
 use Rattle.promise.proofs.JudgedLaws.{judged-means}
@@ -125,7 +125,7 @@ module _ (s : Slice) where
           wrote = λ buffer place n after writes.
               let (over, is) = shown buffer place n after writes in (
                 subst (λ (l : List ℕ). Legal (table-of (now s)) (list-of l)) (sym is) (over .legal),
-                subst (λ (l : List ℕ). No-schedule (table-of (now s)) (list-of l)) (sym is) (over .no-schedule),
+                subst (λ (l : List ℕ). Promise.No-schedule (table-of (now s)) (list-of l)) (sym is) (over .no-schedule),
               );
           left-alone = λ buffer place y after (κs, x, told, is).
               sym is ∙ wrote-leaves (now s) (now buffer) place bytes told .same;

@@ -5,6 +5,7 @@ use Prim.Native.Nat.{ℕ}
 use Rattle.table.specs.Bytes.{Bytes}
 use Rattle.promise.specs.Demands.{Demands}
 use Rattle.promise.proofs.RefusalLaws.{exact-refusals}
+use Rattle.promise.proofs.BenchLaws.{ticks-rightly}
 use Rattle.promise.proofs.NumberLaws.{numbers}
 use Rattle.promise.proofs.PassedLaws.{passed}
 use Rattle.promise.proofs.OverloadedLaws.{overloaded-shown}
@@ -15,6 +16,7 @@ kept s bytes =
     record {
       refusals = exact-refusals s bytes;
       numbers = λ well. numbers s well bytes;
+      ticks = ticks-rightly;
       passed = passed s bytes;
       overloaded = overloaded-shown s bytes;
       judged = judged-rightly s bytes;

@@ -16,3 +16,4 @@ pub mod RefusalExamples
 pub mod NumberLaws
 pub mod Kept
 pub mod CallerLaws
+pub mod BenchLaws

@@ -1,6 +1,6 @@
 -- The numbers are those of the definitions: what each question is answered where nothing is refused.
 -- Assumes nothing.
-use mathlib.Core.Path.{_≡_, _∙_}
+use mathlib.Core.Path.{_≡_, subst, _∙_}
 use mathlib.Core.List.{List}
 use Prim.Native.Nat.{ℕ, _≤_, _<_}
 use borrow.Author.Tests.{le-ltb, lt-leb}
@@ -15,9 +15,11 @@ use Rattle.table.specs.WellFormed.{WellFormed}
 use Rattle.requests.specs.Entry.{list-of}
 use Rattle.requests.specs.Accepted.{Accepted}
 use Rattle.desk.specs.Questions.{refuse-if, too-far, one-task, counts, replays, demand-asked, work-asked, margin-asked, window-asked, list-asked}
+use Rattle.desk.specs.ResponseMeaning.{Told}
 use Rattle.desk.proofs.ListExact.{good-answered, replay-means}
-use Rattle.desk.proofs.ResponseExact.{frame-answered}
+use Rattle.desk.proofs.ResponseExact.{frame-answered, response-told}
 use Rattle.promise.specs.Numbers.{Replayed-rightly, Numbers}
+use Rattle.promise.proofs.BenchLaws.{loaded-rightly}
 use Rattle.promise.proofs.ExactLaws.{table-asked}
 use Rattle.promise.proofs.JudgedLaws.{well-judged}
 use Rattle.promise.proofs.PassedLaws.{accepted-replayed}
@@ -57,6 +59,8 @@ module _ (s : List ℕ) (well : WellFormed s) where
         window = window-answered;
         verdict-is = well-judged s well;
         responses = λ k i has. frame-answered s k i (record { table-good = well; has = has });
+        responses-say = λ k i r is. subst (Told s k i) is (response-told s k i) .says;
         counts = λ list accepted. good-answered counts s list (record { table-good = well; list-good = accepted });
+        loads = loaded-rightly s bytes well;
         replays = replayed bytes;
       }

@@ -7,8 +7,10 @@ use lib.IntN.{ℤ}
 use Rattle.model.specs.Verdict.{overloaded, fits}
 use Rattle.model.specs.Answer.{answered}
 use Rattle.table.specs.WellFormed.{WellFormed}
+use Rattle.bench.specs.declared.state.Bench.{Bench}
 use Rattle.desk.specs.Questions.{verdict-asked}
 use Rattle.promise.specs.Refusals.{Exact-refusals}
+use Rattle.promise.specs.Bench.{Ticks-rightly}
 use Rattle.promise.specs.Numbers.{Numbers}
 use Rattle.promise.specs.Promises.{Passed, Overloaded, Judged-rightly}
 
@@ -18,6 +20,7 @@ pub record Demands (s : List ℕ) : Type 0 where
   pub refusals : Exact-refusals s
   -- 2. "The numbers are those the published models define."
   pub numbers : WellFormed s → Numbers s
+  pub ticks : (b : Bench) → Ticks-rightly b
   -- 3. "Passed means .. Overloaded means .. Undecided only when .."
   pub passed : {window t : ℕ} {m : ℤ} → verdict-asked s ≡ answered (fits window m t) → Passed s
   pub overloaded : {t : ℕ} {m : ℤ} {starts : List ℕ} → verdict-asked s ≡ answered (overloaded t m starts) → Overloaded s

@@ -8,3 +8,4 @@ pub mod Promises
 pub mod Demands
 pub mod Cases
 pub mod Callers
+pub mod Bench

@@ -11,7 +11,8 @@ use Rattle.model.specs.Request.{Has-frame}
 use Rattle.model.specs.Jobs.{jobs-of}
 use Rattle.model.specs.Machine.{sooner}
 use Rattle.model.specs.Replay.{Replayed, Says}
-use Rattle.model.specs.Response.{response}
+use Rattle.model.specs.Response.{Response, higher-share, response}
+use Rattle.model.specs.ResponseMeaning as Response
 use Rattle.model.specs.Answer.{answered}
 use Rattle.table.specs.Bytes.{records}
 use Rattle.table.specs.TableOf.{table-of}
@@ -20,6 +21,7 @@ use Rattle.requests.specs.Accepted.{Accepted}
 use Rattle.response.specs.Deadlines.{Within-P}
 use Rattle.desk.specs.Questions.{demand-asked, work-asked, margin-asked, window-asked, verdict-asked, list-asked, replay-asked}
 use Rattle.desk.specs.Response.{response-asked}
+use Rattle.promise.specs.Bench.{Loaded-rightly}
 
 -- the bench's answer, which says of the machine what document 01 says
 pub record Replayed-rightly (s list : List ℕ) : Type 0 where
@@ -40,6 +42,10 @@ pub record Numbers (s : List ℕ) : Type 0 where
   -- "The desk .. gives fixed-priority response times": of a table with every D at most its P
   pub responses : (k i : ℕ) → Has-frame (table-of s) k i → Within-P s (records s)
       → response-asked s k i ≡ answered (response (table-of s) k i)
+  -- which says of the recurrence what the document says: a value that repeats, or passes D, and its index
+  pub responses-say : (k i : ℕ) (r : Response) → response-asked s k i ≡ answered r
+      → Response.Says (higher-share (table-of s) k) (table-of s .task k .E i) (table-of s .task k .D i) r
   -- of bytes that are a list of the table
   pub counts : (list : List ℕ) → Accepted (table-of s) list → list-asked s list ≡ answered (records list)
+  pub loads : (list : List ℕ) → Accepted (table-of s) list → Loaded-rightly s list
   pub replays : (list : List ℕ) → Accepted (table-of s) list → Replayed-rightly s list

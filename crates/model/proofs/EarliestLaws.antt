@@ -16,9 +16,10 @@ use Rattle.laws.proofs.GateLaws.{only-wider}
 use Rattle.laws.proofs.SumLaws.{sum-mono}
 use Rattle.model.specs.Jobs.{Jobs}
 use Rattle.model.specs.Machine.{sooner, left-at}
-use Rattle.model.specs.Schedule.{due-within}
-use Rattle.model.specs.Service.{Service, Class, every-job, due-up-to, Prefers, came, open-work, Busy, Passes}
+use Rattle.model.specs.Schedule.{units, due-within}
+use Rattle.model.specs.Service.{Service, machine-serves, Class, every-job, due-up-to, Prefers, came, open-work, Busy, Passes}
 use Rattle.model.proofs.OrderLaws.{Strict, sooner-strict, not-sooner-due}
+use Rattle.model.proofs.ServiceLaws.{service-gets}
 use Rattle.model.proofs.BusyLaws.{open-has, busy}
 use Rattle.model.proofs.MachineService.{machine, machine-prefers}
 
@@ -117,3 +118,13 @@ sooner-done jobs =
     leads d i j in-class after =
         le-leb (jobs .due i) d
         (omega (arith, leb-true (jobs .due j) d in-class, not-sooner-due jobs j i after))
+
+-- so as a schedule it gives each job its amount from its arrival to its deadline
+pub sooner-serves : (jobs : Jobs) {window : ℕ} → Passes jobs window → (k : ℕ) → k < jobs .count
+    → units (machine-serves jobs (sooner jobs)) k (jobs .arrive k) (jobs .due k) ≡ jobs .amount k
+sooner-serves jobs passes k inside =
+    omega (
+      arith,
+      sooner-done jobs passes k inside,
+      service-gets (machine jobs (sooner jobs) (sooner-strict jobs)) k inside (jobs .due k),
+    )

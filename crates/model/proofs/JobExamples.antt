@@ -12,9 +12,9 @@ use Rattle.laws.proofs.TallyLaws.{tally-most}
 use Rattle.model.specs.Jobs.{Jobs}
 use Rattle.model.specs.Machine.{sooner, pick, left-at}
 use Rattle.model.specs.Schedule.{units, Unfinished, due-within, Too-much}
-use Rattle.model.specs.Service.{Service, every-job, came, open-work, Busy, Passes}
+use Rattle.model.specs.Service.{machine-serves, Service, every-job, came, open-work, Busy, Passes}
 use Rattle.model.proofs.OrderLaws.{sooner-strict}
-use Rattle.model.proofs.MachineService.{machine-serves, machine}
+use Rattle.model.proofs.MachineService.{machine}
 use Rattle.model.proofs.EarliestLaws.{sooner-done}
 
 -- ---- B's list: (0,2,2) of task 0 and (0,2,1) of task 1

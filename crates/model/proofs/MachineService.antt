@@ -6,27 +6,23 @@ use mathlib.Core.Path.{_≡_, refl, sym, _∙_, subst}
 use Prim.Native.Nat.{ℕ}
 use Rattle.laws.specs.Search.{Found, at, nowhere}
 use Rattle.model.specs.Jobs.{Jobs}
-use Rattle.model.specs.Machine.{Order, ready, chosen, left-at}
+use Rattle.model.specs.Machine.{Order, ready, left-at}
 use Rattle.model.specs.Tick.{Pending}
-use Rattle.model.specs.Service.{Service, Class, Serves, Prefers, Leads}
+use Rattle.model.specs.Service.{Service, machine-serves, Class, Serves, Prefers, Leads}
 use Rattle.model.proofs.OrderLaws.{Strict}
 use Rattle.model.proofs.PickRight.{Picked, pick-right}
 use Rattle.model.proofs.MachineLaws.{ready-is, is-ready, left-start, left-step}
 
 module _ (jobs : Jobs) (before : Order) where
-  -- the job of tick t
-  abbrev pub machine-serves : ℕ → Found
-  machine-serves t = chosen jobs before t (left-at jobs before t)
-
-  -- what it may be
+  -- what the job of tick t may be
   abbrev Choice : ℕ → Found → Type 0
   Choice t = Picked (ready jobs t (left-at jobs before t)) before (jobs .count)
 
   module _ (strict : Strict before) where
-    choice : (t : ℕ) → Choice t (machine-serves t)
+    choice : (t : ℕ) → Choice t (machine-serves jobs before t)
     choice t = pick-right (ready jobs t (left-at jobs before t)) before strict (jobs .count)
 
-    pub machine-ready : (t k : ℕ) → machine-serves t ≡ at k → Pending jobs t (left-at jobs before t) k
+    pub machine-ready : (t k : ℕ) → machine-serves jobs before t ≡ at k → Pending jobs t (left-at jobs before t) k
     machine-ready t k here =
         let first : Choice t (at k) = subst (Choice t) here (choice t) in
         ready-is jobs t (left-at jobs before t) k (first .inside) (first .passes)
@@ -35,7 +31,7 @@ module _ (jobs : Jobs) (before : Order) where
     machine =
         record {
           left = left-at jobs before;
-          serves = machine-serves;
+          serves = machine-serves jobs before;
           start = λ k inside. left-start jobs before k;
           step = λ t k inside. left-step jobs before t k;
           ready = machine-ready;

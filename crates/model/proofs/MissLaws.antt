@@ -9,11 +9,12 @@ use Rattle.model.specs.Jobs.{Jobs}
 use Rattle.model.specs.Machine.{Order, sooner, left-at}
 use Rattle.model.specs.Schedule.{Unfinished, Too-much}
 use Rattle.model.specs.Replay.{Late-at, Missed, Met}
+use Rattle.model.specs.Service.{machine-serves}
 use Rattle.model.proofs.OrderLaws.{Strict, sooner-strict}
 use Rattle.model.proofs.MachineLaws.{left-mono}
 use Rattle.model.proofs.ScheduleLaws.{no-schedule}
 use Rattle.model.proofs.ServiceLaws.{service-gets}
-use Rattle.model.proofs.MachineService.{machine-serves, machine}
+use Rattle.model.proofs.MachineService.{machine}
 
 -- a job that the machine's own schedule leaves short is late at its deadline
 short-late : (jobs : Jobs) (before : Order) → Strict before → (short : Unfinished jobs (machine-serves jobs before))

@@ -8,7 +8,7 @@ use lib.Dec.{leb, ltb}
 use Rattle.laws.specs.Sums.{sum, only}
 use Rattle.laws.specs.Search.{Found, at}
 use Rattle.model.specs.Jobs.{Jobs}
-use Rattle.model.specs.Machine.{Order, give}
+use Rattle.model.specs.Machine.{Order, chosen, give, left-at}
 use Rattle.model.specs.Tick.{Pending}
 use Rattle.model.specs.Schedule.{Schedule, due-within}
 
@@ -19,6 +19,10 @@ pub record Service (jobs : Jobs) : Type 0 where
   pub start : (k : ℕ) → k < jobs .count → left 0 k ≡ jobs .amount k
   pub step : (t k : ℕ) → k < jobs .count → left (suc t) k ≡ give (serves t) (left t) k
   pub ready : (t k : ℕ) → serves t ≡ at k → Pending jobs t (left t) k
+
+-- the machine of the replay bench as a schedule, over any order
+abbrev pub machine-serves : Jobs → Order → Schedule
+machine-serves jobs before t = chosen jobs before t (left-at jobs before t)
 
 -- ---- classes of jobs
 

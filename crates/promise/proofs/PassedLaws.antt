@@ -9,9 +9,10 @@ use Rattle.model.specs.Verdict.{fits}
 use Rattle.model.specs.Request.{Requests, Legal}
 use Rattle.model.specs.Jobs.{jobs-of}
 use Rattle.model.specs.Replay.{Replayed, missed, all-met}
+use Rattle.model.specs.Service.{Passes}
 use Rattle.model.specs.Answer.{answered}
 use Rattle.model.proofs.LegalPasses.{fits-passes}
-use Rattle.model.proofs.EarliestLaws.{sooner-done}
+use Rattle.model.proofs.EarliestLaws.{sooner-done, sooner-serves}
 use Rattle.model.proofs.MissLaws.{done-not-missed}
 use Rattle.table.specs.Bytes.{Bytes}
 use Rattle.table.specs.TableOf.{table-of}
@@ -36,10 +37,11 @@ module _ (s : List ℕ) (bytes : Bytes s) {window t : ℕ} {m : ℤ} (judged : v
     well : WellFormed s
     well = judged-well s judged
 
+    passes : (list : Requests) → Legal (table-of s) list → Passes (jobs-of (table-of s) list) window
+    passes = fits-passes (well-proper bytes well) (judged-means s bytes judged)
+
     finishes : (list : Requests) → Legal (table-of s) list → Finishes-each (table-of s) list
-    finishes list legal =
-        sooner-done (jobs-of (table-of s) list)
-        (fits-passes (well-proper bytes well) (judged-means s bytes judged) list legal)
+    finishes list legal = sooner-done (jobs-of (table-of s) list) (passes list legal)
 
     replays-met : (list : List ℕ) → Accepted (table-of s) list → Replays-met s list
     replays-met list accepted = which (replays (table-of s) (list-of list)) (accepted-replayed s list well accepted)
@@ -52,4 +54,9 @@ module _ (s : List ℕ) (bytes : Bytes s) {window t : ℕ} {m : ℤ} (judged : v
             tick index (replay-means s bytes list (missed tick index) is))
 
     pub passed : Passed s
-    passed = record { finishes = finishes; replays = replays-met }
+    passed =
+        record {
+          finishes = finishes;
+          serves = λ list legal. sooner-serves (jobs-of (table-of s) list) (passes list legal);
+          replays = replays-met;
+        }

@@ -12,7 +12,8 @@ use Rattle.model.specs.Request.{Requests, Legal}
 use Rattle.model.specs.Jobs.{jobs-of}
 use Rattle.model.specs.Machine.{sooner, left-at}
 use Rattle.model.specs.Replay.{missed, all-met}
-use Rattle.model.specs.Schedule.{Schedule, Unfinished}
+use Rattle.model.specs.Schedule.{Schedule, units, Unfinished}
+use Rattle.model.specs.Service.{machine-serves}
 use Rattle.model.specs.Answer.{answered}
 use Rattle.table.specs.TableOf.{table-of}
 use Rattle.requests.specs.Entry.{list-of}
@@ -31,6 +32,13 @@ Finishes-each table list =
     let jobs = jobs-of table list in
     (i : ℕ) → i < list .count → left-at jobs (sooner jobs) (jobs .due i) i ≡ 0
 
+-- in the words of any schedule: the machine's own ticks from its arrival on and before its deadline are a request's E
+abbrev pub Serves-each : Table → Requests → Type 0
+Serves-each table list =
+    let jobs = jobs-of table list in
+    (i : ℕ) → i < list .count
+    → units (machine-serves jobs (sooner jobs)) i (jobs .arrive i) (jobs .due i) ≡ jobs .amount i
+
 -- `replay` answers *all met*
 pub record Replays-met (s list : List ℕ) : Type 0 where
   pub tick : ℕ
@@ -38,6 +46,8 @@ pub record Replays-met (s list : List ℕ) : Type 0 where
 
 pub record Passed (s : List ℕ) : Type 0 where
   pub finishes : (list : Requests) → Legal (table-of s) list → Finishes-each (table-of s) list
+  -- as a schedule, it gives each request its E ticks from its arrival to its deadline
+  pub serves : (list : Requests) → Legal (table-of s) list → Serves-each (table-of s) list
   -- the bytes of a list that the bench accepts
   pub replays : (list : List ℕ) → Accepted (table-of s) list → Replays-met s list
 

@@ -1,3 +1,4 @@
+pub mod TableLaws
 pub mod AskLaws
 pub mod ListLaws
 pub mod WritingLaws

@@ -13,14 +13,9 @@ use Rattle.model.specs.Machine.{sooner}
 use Rattle.model.specs.Replay.{Replayed, all-met, Says}
 use Rattle.model.specs.Answer.{answered, refused}
 use Rattle.table.specs.Bytes.{Bytes}
-use Rattle.table.specs.declared.reader.Reading.{Reading}
-use Rattle.table.specs.declared.reader.Reading.the-variants as reading
-use Rattle.table.specs.Reader.{reading-of}
 use Rattle.table.specs.TableOf.{table-of}
 use Rattle.table.specs.WellFormed.{WellFormed}
-use Rattle.table.proofs.Exact.{read-good, good-read, read-refused, refused-read}
 use Rattle.table.proofs.Rising.{few-tasks}
-use Rattle.table.proofs.TaskLaws.{proper-table}
 use Rattle.requests.specs.declared.reader.Checked.{Checked}
 use Rattle.requests.specs.declared.reader.Checked.the-variants.{Legal, Refused}
 use Rattle.requests.specs.Entry.{list-of}
@@ -30,41 +25,37 @@ use Rattle.requests.proofs.Exact.{check-good, good-check, check-refused, refuse
 use Rattle.bench.specs.Loaded.{run-whole, end-of}
 use Rattle.bench.specs.Meaning.{Ended}
 use Rattle.bench.proofs.ReplaySays.{accepted-replayable, run-ends, replay-empty}
-use Rattle.desk.specs.Questions.{on-list, replays, loads, replay-asked}
+use Rattle.desk.specs.Questions.{by-list, on-list, replays, loads, replay-asked}
 use Rattle.desk.specs.Refusals.{Both-good, Refused-with, Told}
+use Rattle.desk.proofs.TableLaws.{table-refused, table-asked, table-told, well-proper}
 
 module _ {A : Type 0} (ask : Table → Requests → A) (s list : List ℕ) where
   -- ---- from the bytes to the answer
 
   pub good-answered : Both-good s list → on-list s list ask ≡ answered (ask (table-of s) (list-of list))
   good-answered good =
-      rw (good-read s (good .table-good), good-check (table-of s) (few-tasks (good .table-good)) list (good .list-good))
+      table-asked s (by-list list ask) (good .table-good)
+      ∙ rw (good-check (table-of s) (few-tasks (good .table-good)) list (good .list-good))
 
   pub bad-refused : (number index : ℕ) → Refused-with s list number index → on-list s list ask ≡ refused number index
-  bad-refused number index (inl bad) = rw (refused-read s number index bad)
+  bad-refused number index (inl bad) = table-refused s (by-list list ask) bad
   bad-refused number index (inr bad) =
-      rw (
-        good-read s (bad .table-good),
-        refused-check (table-of s) (few-tasks (bad .table-good)) list number index (bad .list-bad),
-      )
+      table-asked s (by-list list ask) (bad .table-good)
+      ∙ rw (refused-check (table-of s) (few-tasks (bad .table-good)) list number index (bad .list-bad))
 
   -- ---- and back
 
   checked-told : WellFormed s → (x : Checked) → check-of (table-of s) list ≡ x
-      → Told s list (on-list s list ask)
+      → Told s list (by-list list ask (table-of s))
   checked-told well (Legal n) is =
-      rw (good-read s well, is)
-      (record { table-good = well; list-good = check-good (table-of s) (few-tasks well) list n is })
+      rw is (record { table-good = well; list-good = check-good (table-of s) (few-tasks well) list n is })
   checked-told well (Refused r) is =
-      rw (good-read s well, is)
-      (inr (record { table-good = well; list-bad = check-refused (table-of s) (few-tasks well) list r is }))
+      rw is (inr (record { table-good = well; list-bad = check-refused (table-of s) (few-tasks well) list r is }))
 
   pub list-told : Told s list (on-list s list ask)
-  list-told = which (reading-of s) refl
-    where
-      which : (r : Reading) → reading-of s ≡ r → Told s list (on-list s list ask)
-      which (reading.Table shape) is = checked-told (read-good s shape is) (check-of (table-of s) list) refl
-      which (reading.Refused r) is = rw is (inl (read-refused s r is))
+  list-told =
+      table-told s (by-list list ask) (Told s list) (λ number index bad. inl bad)
+      (λ well. checked-told well (check-of (table-of s) list) refl)
 
 -- ---- the replay
 
@@ -74,7 +65,7 @@ module _ (s : List ℕ) (bytes : Bytes s) (list : List ℕ) where
       (run-whole (loads (table-of s) (list-of list)))
   load-ends good =
       run-ends (jobs-of (table-of s) (list-of list))
-      (accepted-replayable (proper-table s (λ i. bytes i .fits) (good .table-good)) list (good .list-good))
+      (accepted-replayable (well-proper bytes (good .table-good)) list (good .list-good))
 
   -- a replay that is answered says of the machine what document 01 says
   pub replay-means : (r : Replayed) → replay-asked s list ≡ answered r

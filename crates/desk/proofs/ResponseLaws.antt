@@ -15,18 +15,19 @@ use Rattle.table.specs.declared.reader.Reading.the-variants as reading
 use Rattle.table.specs.Bytes.{records}
 use Rattle.table.specs.Reader.{reading-of}
 use Rattle.table.specs.TableOf.{table-of}
-use Rattle.table.proofs.Exact.{shaped, good-read}
+use Rattle.table.proofs.Exact.{shaped}
 use Rattle.response.specs.Deadlines.{first-above}
 use Rattle.response.proofs.DeadlineLaws.{above-at, above-none}
-use Rattle.desk.specs.Response.{refuse-at, response-asked}
+use Rattle.desk.specs.Response.{refuse-at, by-frame, response-asked}
 use Rattle.desk.specs.ResponseMeaning.{Asks-frame}
+use Rattle.desk.proofs.TableLaws.{table-asked}
 
 -- of a frame that is there, 8 is all that can be refused
 pub asks-response : {s : List ℕ} {k i : ℕ} → Asks-frame s k i
     → response-asked s k i ≡ refuse-at (first-above (records s) s) 8 (answered (response (table-of s) k i))
 unfolding response-asked
 asks-response {s} {k} {i} asks =
-    rw (good-read s (asks .table-good), kept (catches-frame (table-of s) k i) (asks .has))
+    table-asked s (by-frame s k i) (asks .table-good) ∙ rw (kept (catches-frame (table-of s) k i) (asks .has))
 
 module _ (s : List ℕ) (shape : Shape) (read : reading-of s ≡ reading.Table shape) (k i : ℕ)
     {missing : Bool} (told : missing ≡ no-frame (table-of s) k i) where

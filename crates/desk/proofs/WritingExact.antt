@@ -2,7 +2,7 @@
 -- where document 01 names that refusal.
 -- Assumes nothing.
 use mathlib.Core.Bool.{true≢false}
-use mathlib.Core.Path.{_≡_, refl, sym, _∙_}
+use mathlib.Core.Path.{_≡_, refl, sym, ap, _∙_}
 use mathlib.Core.List.{List}
 use mathlib.Core.Logic.{inl, inr}
 use Prim.Native.Nat.{ℕ, _+_, _≤_}
@@ -19,20 +19,16 @@ use Rattle.model.proofs.StartLaws.{starts-sixteen, starts-each, starts-past}
 use Rattle.model.proofs.VerdictLaws.{verdict-means, means-only}
 use Rattle.model.proofs.OverloadVerdict.{verdict-over}
 use Rattle.table.specs.Bytes.{Bytes}
-use Rattle.table.specs.declared.reader.Reading.{Reading}
-use Rattle.table.specs.declared.reader.Reading.the-variants as reading
-use Rattle.table.specs.Reader.{reading-of}
 use Rattle.table.specs.TableOf.{table-of}
 use Rattle.table.specs.WellFormed.{WellFormed}
-use Rattle.table.proofs.Exact.{read-good, good-read, read-refused, refused-read}
-use Rattle.table.proofs.TaskLaws.{proper-table}
 use Rattle.overload.specs.Place.{placed}
 use Rattle.overload.specs.Shows.{Shows}
 use Rattle.overload.proofs.PlaceLaws.{placed-beyond, placed-within}
 use Rattle.overload.proofs.Shown.{list-shows}
 use Rattle.desk.specs.Questions.{verdict-asked}
-use Rattle.desk.specs.Overload.{on-overload, list-at, overload-asked}
+use Rattle.desk.specs.Overload.{on-overload, list-at, by-verdict, overload-asked}
 use Rattle.desk.specs.OverloadMeaning.{Overloaded-at, Refused-with, table-bad, refuses-13, refuses-12, Told}
+use Rattle.desk.proofs.TableLaws.{table-refused, table-asked, table-told, well-proper, well-judged}
 
 -- ---- the verdict on bytes
 
@@ -48,9 +44,6 @@ over-at well means =
     }
 
 module _ (s : List ℕ) (bytes : Bytes s) where
-  proper : WellFormed s → ProperTable (table-of s)
-  proper well = proper-table s (λ i. bytes i .fits) well
-
   module _ {t : ℕ} (over : Overloaded-at s t) where
     over-verdict : verdict horizon (table-of s) ≡ overloaded t (margin (table-of s) t) (starts (table-of s) t)
     over-verdict =
@@ -67,16 +60,15 @@ module _ (s : List ℕ) (bytes : Bytes s) where
         }))
       where
         good : ProperTable (table-of s)
-        good = proper (over .table-good)
+        good = well-proper bytes (over .table-good)
 
     -- so `overloaded` at t is what a caller is told who asks for the verdict
     pub over-judged : verdict-asked s ≡ answered (overloaded t (margin (table-of s) t) (starts (table-of s) t))
-    unfolding verdict-asked
-    over-judged = rw (good-read s (over .table-good), over-verdict)
+    over-judged = well-judged s (over .table-good) ∙ ap answered over-verdict
 
     pub over-shows : Shows (table-of s) t (list-at (table-of s) t)
     over-shows =
-        let good = proper (over .table-good) in
+        let good = well-proper bytes (over .table-good) in
         list-shows good t (over .within) (verdict-over good over-verdict .over)
 
   -- a verdict on a table without overload is one of the two others
@@ -94,7 +86,7 @@ module _ (s buffer : List ℕ) (place : ℕ) (bytes : Bytes s) where
   over-placed : {t : ℕ} → Overloaded-at s t
       → overload-asked s buffer place ≡ placed buffer place (list-at (table-of s) t)
   unfolding overload-asked
-  over-placed over = rw (good-read s (over .table-good), over-verdict s bytes over)
+  over-placed over = table-asked s (by-verdict buffer place) (over .table-good) ∙ rw (over-verdict s bytes over)
 
   pub over-written : (t : ℕ) → Overloaded-at s t → place + length (list-at (table-of s) t) ≤ length buffer
       → overload-asked s buffer place ≡ answered (list-at (table-of s) t)
@@ -103,41 +95,37 @@ module _ (s buffer : List ℕ) (place : ℕ) (bytes : Bytes s) where
   pub bad-unwritten : {number index : ℕ} → Refused-with s buffer place number index
       → overload-asked s buffer place ≡ refused number index
   unfolding overload-asked
-  bad-unwritten {number} {index} (table-bad bad) = rw (refused-read s number index bad)
+  bad-unwritten (table-bad bad) = table-refused s (by-verdict buffer place) bad
   bad-unwritten (refuses-13 none) =
-      rw (good-read s (none .table-good))
-      (calm-13 s bytes (none .calm) (verdict horizon (table-of s))
-      (verdict-means (proper s bytes (none .table-good)) horizon)
-      (λ t. placed buffer place (list-at (table-of s) t)))
+      table-asked s (by-verdict buffer place) (none .table-good)
+      ∙ calm-13 s bytes (none .calm) (verdict horizon (table-of s))
+      (verdict-means (well-proper bytes (none .table-good)) horizon)
+      (λ t. placed buffer place (list-at (table-of s) t))
   bad-unwritten (refuses-12 full) =
       over-placed (full .overloaded) ∙ placed-beyond buffer place (list-at (table-of s) (full .t)) (full .short)
 
   -- ---- and back
 
-  bad-told : {number index : ℕ} → Refused-with s buffer place number index
-      → Told s buffer place (overload-asked s buffer place)
-  bad-told bad = rw (bad-unwritten bad) bad
-
-  over-told : {t : ℕ} → Overloaded-at s t → Told s buffer place (overload-asked s buffer place)
+  over-told : {t : ℕ} → Overloaded-at s t → Told s buffer place (placed buffer place (list-at (table-of s) t))
   over-told {t} over =
-      elim (lt-or-le (length buffer) (place + length (list-at (table-of s) t))) [
-        | inl short ↦ bad-told (refuses-12 (record { t = t; overloaded = over; short = short }))
+      let list = list-at (table-of s) t in
+      elim (lt-or-le (length buffer) (place + length list)) [
+        | inl short ↦
+            rw (placed-beyond buffer place list short)
+            (refuses-12 (record { t = t; overloaded = over; short = short }))
         | inr room ↦
-            rw (over-written t over room)
+            rw (placed-within buffer place list room)
             (record { t = t; overloaded = over; is = refl; shows = over-shows s bytes over; room = room })
       ]
 
   judged-told : WellFormed s → (v : Verdict) → Means horizon (table-of s) v
-      → Told s buffer place (overload-asked s buffer place)
+      → Told s buffer place (on-overload v (λ t. placed buffer place (list-at (table-of s) t)))
   judged-told well (overloaded t m first) means = over-told (over-at well means)
-  judged-told well (fits window m t) means = bad-told (refuses-13 (record { table-good = well; calm = means .calm }))
-  judged-told well undecided means = bad-told (refuses-13 (record { table-good = well; calm = means .calm }))
+  judged-told well (fits window m t) means = refuses-13 (record { table-good = well; calm = means .calm })
+  judged-told well undecided means = refuses-13 (record { table-good = well; calm = means .calm })
 
   pub writing-told : Told s buffer place (overload-asked s buffer place)
-  writing-told = which (reading-of s) refl
-    where
-      which : (r : Reading) → reading-of s ≡ r → Told s buffer place (overload-asked s buffer place)
-      which (reading.Table shape) is =
-          let well = read-good s shape is in
-          judged-told well (verdict horizon (table-of s)) (verdict-means (proper s bytes well) horizon)
-      which (reading.Refused r) is = bad-told (table-bad (read-refused s r is))
+  unfolding overload-asked
+  writing-told =
+      table-told s (by-verdict buffer place) (Told s buffer place) (λ number index bad. table-bad bad)
+      (λ well. judged-told well (verdict horizon (table-of s)) (verdict-means (well-proper bytes well) horizon))

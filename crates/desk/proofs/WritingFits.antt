@@ -11,16 +11,13 @@ use Rattle.laws.proofs.Cases.{lt-or-le}
 use Rattle.model.specs.Task.{Table}
 use Rattle.model.specs.Verdict.{horizon, Verdict, overloaded, fits, undecided, verdict}
 use Rattle.model.specs.Answer.{Answer, answered, refused}
-use Rattle.table.specs.declared.reader.Reading.{Reading}
-use Rattle.table.specs.declared.reader.Reading.the-variants as reading
-use Rattle.table.specs.Reader.{reading-of}
 use Rattle.table.specs.TableOf.{table-of}
 use Rattle.overload.specs.declared.write.Written.{Written}
 use Rattle.overload.specs.declared.write.Written.the-variants as written
 use Rattle.overload.specs.Place.{placed, written-of, Wrote}
 use Rattle.overload.proofs.PlaceLaws.{placed-beyond, placed-within}
-use Rattle.desk.specs.Questions.{after-reading}
-use Rattle.desk.specs.Overload.{on-overload, list-at, overload-asked}
+use Rattle.desk.specs.Overload.{on-overload, list-at, by-verdict, overload-asked}
+use Rattle.desk.proofs.TableLaws.{table-told}
 
 -- what is answered is no longer than the buffer; of a refusal nothing is asked
 abbrev Fitting : List ℕ → Answer (List ℕ) → Type 0
@@ -35,17 +32,18 @@ module _ (buffer : List ℕ) (place : ℕ) where
         | inr within ↦ rw (placed-within buffer place list within) (omega arith)
       ]
 
-  -- each of the ways through the question
-  way-fits : (r : Reading) (v : Verdict) (table : Table)
-      → Fitting buffer (after-reading r (on-overload v (λ t. placed buffer place (list-at table t))))
-  way-fits (reading.Refused r) v table = tt
-  way-fits (reading.Table shape) (overloaded t m starts) table = placed-fits (list-at table t)
-  way-fits (reading.Table shape) (fits window m t) table = tt
-  way-fits (reading.Table shape) undecided table = tt
+  -- whichever verdict the table gets
+  verdict-fits : (v : Verdict) (table : Table)
+      → Fitting buffer (on-overload v (λ t. placed buffer place (list-at table t)))
+  verdict-fits (overloaded t m starts) table = placed-fits (list-at table t)
+  verdict-fits (fits window m t) table = tt
+  verdict-fits undecided table = tt
 
   asked-fits : (s : List ℕ) → Fitting buffer (overload-asked s buffer place)
   unfolding overload-asked
-  asked-fits s = way-fits (reading-of s) (verdict horizon (table-of s)) (table-of s)
+  asked-fits s =
+      table-told s (by-verdict buffer place) (Fitting buffer) (λ number index bad. tt)
+      (λ well. verdict-fits (verdict horizon (table-of s)) (table-of s))
 
   count-fits : (said : Answer (List ℕ)) {n : ℕ} → Fitting buffer said → written.Bytes n ≡ written-of said
       → n ≤ length buffer

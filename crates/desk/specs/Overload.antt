@@ -22,6 +22,9 @@ abbrev pub list-at : Table → ℕ → List ℕ
 list-at table t = bytes-of (overload-list table t)
 
 -- the bytes to be written from the place on, or the refusal
+abbrev pub by-verdict : List ℕ → ℕ → Table → Answer (List ℕ)
+by-verdict buffer place table =
+    on-overload (verdict horizon table) (λ t. placed buffer place (list-at table t))
+
 unfoldable pub overload-asked : List ℕ → List ℕ → ℕ → Answer (List ℕ)
-overload-asked s buffer place =
-    on-table s (λ table. on-overload (verdict horizon table) (λ t. placed buffer place (list-at table t)))
+overload-asked s buffer place = on-table s (by-verdict buffer place)

@@ -69,9 +69,11 @@ abbrev pub after-check : {A : Type 0} → Checked → Answer A → Answer A
 after-check (checked.Legal n) said = said
 after-check (checked.Refused r) said = refused (r .number) (r .index)
 
+abbrev pub by-list : {A : Type 0} → List ℕ → (Table → Requests → A) → Table → Answer A
+by-list list ask table = after-check (check-of table list) (answered (ask table (list-of list)))
+
 abbrev pub on-list : {A : Type 0} → List ℕ → List ℕ → (Table → Requests → A) → Answer A
-on-list s list ask =
-    on-table s (λ table. after-check (check-of table list) (answered (ask table (list-of list))))
+on-list s list ask = on-table s (by-list list ask)
 
 -- what is asked of a legal list: how many requests it has, its replay, and the bench that is loaded with it
 abbrev pub counts : Table → Requests → ℕ

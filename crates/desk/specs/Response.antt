@@ -4,6 +4,7 @@
 use Prim.Native.Nat.{ℕ}
 use mathlib.Core.List.{List}
 use Rattle.laws.specs.Search.{Found, at, nowhere}
+use Rattle.model.specs.Task.{Table}
 use Rattle.model.specs.Request.{no-frame}
 use Rattle.model.specs.Response.{Response, response}
 use Rattle.model.specs.Answer.{Answer, answered, refused}
@@ -18,7 +19,9 @@ refuse-at nowhere number rest = rest
 
 -- 9: "no such task or frame"; 8: "response asked and some frame of the table has D above its P", carrying the "first
 -- such record"
+abbrev pub by-frame : List ℕ → ℕ → ℕ → Table → Answer Response
+by-frame s k i table =
+    refuse-if (no-frame table k i) 9 (refuse-at (first-above (records s) s) 8 (answered (response table k i)))
+
 unfoldable pub response-asked : List ℕ → ℕ → ℕ → Answer Response
-response-asked s k i =
-    on-table s (λ table. refuse-if (no-frame table k i) 9
-    (refuse-at (first-above (records s) s) 8 (answered (response table k i))))
+response-asked s k i = on-table s (by-frame s k i)

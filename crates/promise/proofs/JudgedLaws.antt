@@ -1,40 +1,23 @@
 -- Which verdict bytes get: the one that means what holds of their table, which is one and no other.
 -- Assumes nothing.
-use mathlib.Core.Path.{_≡_, refl, sym, ap, subst, _∙_}
+use mathlib.Core.Path.{_≡_, sym, ap, subst, _∙_}
 use mathlib.Core.List.{List}
 use Prim.Native.Nat.{ℕ}
-use native.Mathlib.Omega.{arith}
-use Rattle.model.specs.Task.{ProperTable}
 use Rattle.model.specs.Verdict.{horizon, Verdict, undecided, verdict}
 use Rattle.model.specs.Meaning.{Means}
 use Rattle.model.specs.Answer.{answered}
 use Rattle.model.proofs.VerdictLaws.{verdict-means, means-only}
-use Rattle.table.specs.declared.reader.Reading.{Reading}
-use Rattle.table.specs.declared.reader.Reading.the-variants as reading
 use Rattle.table.specs.Bytes.{Bytes}
-use Rattle.table.specs.Reader.{reading-of}
 use Rattle.table.specs.TableOf.{table-of}
 use Rattle.table.specs.WellFormed.{WellFormed}
-use Rattle.table.proofs.Exact.{read-good, good-read}
-use Rattle.table.proofs.TaskLaws.{proper-table}
 use Rattle.desk.specs.Questions.{verdict-asked}
+use Rattle.desk.proofs.TableLaws.{answered-well, well-proper, well-judged}
 use Rattle.promise.specs.Promises.{Judged-rightly}
 
 -- bytes that get a verdict are a table
 pub judged-well : (s : List ℕ) {v : Verdict} → verdict-asked s ≡ answered v → WellFormed s
 unfolding verdict-asked
-judged-well s judged = which (reading-of s) refl
-  where
-    which : (r : Reading) → reading-of s ≡ r → WellFormed s
-    which (reading.Table shape) read = read-good s shape read
-    which (reading.Refused x) read = let apart : _≡_ {A = ℕ} 0 1 = cc (rw read at judged) in absurd (omega arith)
-
-pub well-judged : (s : List ℕ) → WellFormed s → verdict-asked s ≡ answered (verdict horizon (table-of s))
-unfolding verdict-asked
-well-judged s well = rw (good-read s well)
-
-pub well-proper : {s : List ℕ} → Bytes s → WellFormed s → ProperTable (table-of s)
-well-proper {s} bytes well = proper-table s (λ i. bytes i .fits) well
+judged-well s = answered-well s (λ table. answered (verdict horizon table))
 
 module _ (s : List ℕ) (bytes : Bytes s) where
   pub judged-means : {v : Verdict} → verdict-asked s ≡ answered v → Means horizon (table-of s) v

@@ -23,12 +23,9 @@ use Rattle.model.proofs.WalkLaws.{walk, walk-is}
 use Rattle.model.specs.Request.{last-arrival}
 use Rattle.model.specs.Machine.{sooner, pick}
 use Rattle.model.specs.Replay.{missed, last-tick}
-use Rattle.table.specs.declared.reader.Reading.{Reading}
-use Rattle.table.specs.declared.reader.Reading.the-variants.{Table, Refused}
 use Rattle.table.specs.Bytes.{Bytes, record-of}
 use Rattle.table.specs.Reader.{reading-of}
 use Rattle.table.specs.TableOf.{records-before, records-of, task-of}
-use Rattle.table.proofs.Exact.{read-good}
 use Rattle.table.proofs.TaskLaws.{proper-table}
 use Rattle.requests.specs.Entry.{entry-of, bytes-to}
 use Rattle.requests.specs.Reader.{check-of}
@@ -39,6 +36,7 @@ use Rattle.overload.specs.Place.{placed}
 use Rattle.desk.specs.Questions.{on-table, demand-asked, verdict-asked, replay-asked}
 use Rattle.desk.specs.Overload.{on-overload, list-at, overload-asked}
 use Rattle.desk.specs.Response.{response-asked}
+use Rattle.desk.proofs.TableLaws.{table-refused, table-asked, table-told}
 use Rattle.promise.specs.Tables.{A, B, B-list, F, K7-task, four, twenty}
 use Rattle.promise.specs.Asked.{Question, demand-of, verdict-on, replay-with, overload-into, response-to, first-values, left-by, Said, values, said, Row}
 use Rattle.promise.specs.Named.{named}
@@ -72,14 +70,13 @@ module _ (s : List ℕ) (bytes : T (every is-byte s)) where
   -- of a table that was read, whatever is asked of its verdict may be asked of the walk
   walked : {A : Type 0} (ask : Table.Table → Verdict → Answer A)
       → on-table s (λ table. ask table (walk table horizon 1)) ≡ on-table s (λ table. ask table (verdict horizon table))
-  walked {A} ask = which (reading-of s) refl
+  walked {A} ask =
+      table-told s (λ table. ask table (verdict horizon table)) (λ said. on-table s by-steps ≡ said)
+      (λ number index bad. table-refused s by-steps bad)
+      (λ well. table-asked s by-steps well ∙ rw (walk-is (proper-table s (bytes-are s bytes) well) horizon))
     where
-      which : (r : Reading) → reading-of s ≡ r
-          → on-table s (λ table. ask table (walk table horizon 1))
-          ≡ on-table s (λ table. ask table (verdict horizon table))
-      which (Table shape) read =
-          rw (read, walk-is (proper-table s (bytes-are s bytes) (read-good s shape read)) horizon)
-      which (Refused r) read = rw read
+      by-steps : Table.Table → Answer A
+      by-steps table = ask table (walk table horizon 1)
 
   quick-is : (q : Question) → quick s q ≡ said s q
   unfolding quick verdict-asked overload-asked quick-list

@@ -27,10 +27,11 @@ use Rattle.desk.specs.Questions.{replays, verdict-asked, replay-asked}
 use Rattle.desk.specs.Overload.{list-at, overload-asked}
 use Rattle.desk.specs.OverloadMeaning.{Overloaded-at}
 use Rattle.desk.proofs.ListExact.{replay-means}
+use Rattle.desk.proofs.TableLaws.{well-judged, well-proper}
 use Rattle.desk.proofs.WritingExact.{over-at, over-judged, over-shows, over-written}
 use Rattle.desk.proofs.WritingLeft.{wrote-leaves}
 use Rattle.promise.specs.Promises.{Replays-missed, Overloaded}
-use Rattle.promise.proofs.JudgedLaws.{judged-well, judged-means, well-judged, well-proper}
+use Rattle.promise.proofs.JudgedLaws.{judged-well, judged-means}
 use Rattle.promise.proofs.PassedLaws.{accepted-replayed}
 
 module _ (s : List ℕ) (bytes : Table.Bytes s) {t : ℕ} {m : ℤ} {starts : List ℕ}

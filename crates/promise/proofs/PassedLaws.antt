@@ -21,9 +21,10 @@ use Rattle.requests.specs.Entry.{list-of}
 use Rattle.requests.specs.Accepted.{Accepted}
 use Rattle.requests.proofs.AcceptedLaws.{accepted-legal}
 use Rattle.desk.specs.Questions.{replays, verdict-asked, replay-asked}
+use Rattle.desk.proofs.TableLaws.{well-proper}
 use Rattle.desk.proofs.ListExact.{good-answered, replay-means}
 use Rattle.promise.specs.Promises.{Finishes-each, Replays-met, Passed}
-use Rattle.promise.proofs.JudgedLaws.{judged-well, judged-means, well-proper}
+use Rattle.promise.proofs.JudgedLaws.{judged-well, judged-means}
 
 -- the bench answers whatever list it accepts
 pub accepted-replayed : (s list : List ℕ) → WellFormed s → Accepted (table-of s) list

@@ -15,8 +15,9 @@ use Rattle.table.specs.TableOf.{table-of}
 use Rattle.table.specs.WellFormed.{WellFormed}
 use Rattle.table.specs.Refusals.{Refused-with}
 use Rattle.desk.specs.Questions.{on-table, refuse-if, too-far, one-task}
+use Rattle.desk.proofs.TableLaws.{table-refused, table-asked, table-told, test-told}
 use Rattle.promise.specs.Refusals.{Time-refused, Task-refused, table-bad, refuses-9, refuses-7, Exactly}
-use Rattle.promise.proofs.ExactLaws.{exactly, Named, table-refused, table-asked, table-told, test-told}
+use Rattle.promise.proofs.ExactLaws.{exactly, Named}
 
 module _ (s : List ℕ) where
   -- ---- a question that every table is answered

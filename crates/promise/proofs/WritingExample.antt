@@ -1,23 +1,16 @@
 -- Tables and a buffer that meet what the laws about writing ask: B and its twenty bytes, and A, which is not
 -- overloaded; and what the laws then say.
 -- Assumes nothing.
-use mathlib.Core.Path.{_≡_, refl, sym, ap, subst}
+use mathlib.Core.Path.{_≡_, sym, ap, subst}
 use mathlib.Core.List.{List, [], _∷_, _++_}
 use Prim.Native.Nat.{ℕ}
 use native.Mathlib.Omega.{arith}
 use lib.Dec.{lit<}
 use lib.IntN.{pos, negsuc}
 use lib.ListN.{replicate}
-use Rattle.model.specs.Verdict.{horizon, overloaded, fits, verdict}
-use Rattle.model.specs.Meaning.{Means}
+use Rattle.model.specs.Verdict.{overloaded, fits}
 use Rattle.model.specs.Answer.{answered, refused}
-use Rattle.model.proofs.VerdictLaws.{verdict-means}
-use Rattle.table.specs.declared.reader.Reading.{Reading}
-use Rattle.table.specs.declared.reader.Reading.the-variants as reading
-use Rattle.table.specs.Reader.{reading-of}
-use Rattle.table.specs.TableOf.{table-of}
-use Rattle.table.proofs.Exact.{read-good, good-read, refused-read}
-use Rattle.table.proofs.TaskLaws.{proper-table}
+use Rattle.table.proofs.Exact.{good-read, refused-read}
 use Rattle.overload.specs.Place.{Wrote}
 use Rattle.desk.specs.Questions.{verdict-asked}
 use Rattle.desk.specs.Overload.{overload-asked}
@@ -27,6 +20,7 @@ use Rattle.promise.specs.Tables.{A, B, B-list, twenty}
 use Rattle.promise.specs.Asked.{overload-into, Leaves, said}
 use Rattle.promise.specs.Named.{named}
 use Rattle.promise.proofs.NamedLaws.{named-right, no-row, A-bytes, B-bytes}
+use Rattle.promise.proofs.JudgedLaws.{judged-well, judged-means}
 use Rattle.desk.proofs.WritingExact.{over-judged, bad-unwritten}
 use Rattle.desk.proofs.WritingLeft.{wrote-leaves}
 
@@ -83,16 +77,7 @@ unfolding named
 K2 = named-right 8 (lit< tt) no-row
 
 pub A-calm : Not-overloaded A
-unfolding verdict-asked
-A-calm = which (reading-of A) refl
-  where
-    which : (r : Reading) → reading-of A ≡ r → Not-overloaded A
-    which (reading.Table shape) read =
-        let well = read-good A shape read in
-        let is : verdict horizon (table-of A) ≡ fits 8 (pos 0) 2 = cc (rw read at K2) in
-        let means = verdict-means (proper-table A (λ i. A-bytes i .fits) well) horizon in
-        record { table-good = well; calm = subst (Means horizon (table-of A)) is means .calm }
-    which (reading.Refused r) read = let apart : _≡_ {A = ℕ} 0 1 = cc (rw read at K2) in absurd (omega arith)
+A-calm = record { table-good = judged-well A K2; calm = judged-means A A-bytes K2 .calm }
 
 pub A-refused : (buffer : List ℕ) (place : ℕ) → overload-asked A buffer place ≡ refused 13 0
 A-refused buffer place = bad-unwritten A buffer place A-bytes (refuses-13 A-calm)

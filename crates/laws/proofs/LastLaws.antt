@@ -4,10 +4,10 @@ use mathlib.Core.Bool.{Bool, true, false}
 use mathlib.Core.Path.{_≡_, refl, sym, _∙_, ap}
 use mathlib.Core.Logic.{inl, inr}
 use Prim.Native.Nat.{ℕ, zero, suc, _≤_, _<_}
-use native.Mathlib.Nat.{le-refl, le-step}
 use native.Mathlib.Omega.{arith}
 use Rattle.laws.specs.Search.{up-to-last}
-use Rattle.laws.proofs.Cases.{lt-or-le, lt-or-last}
+use Rattle.laws.proofs.Cases.{lt-or-last}
+use Rattle.laws.proofs.Falling.{steady}
 
 module _ (test : ℕ → Bool) where
   pub last-none : up-to-last test 0 ≡ 0
@@ -25,16 +25,7 @@ module _ (test : ℕ → Bool) where
   -- numbers that fail change nothing
   pub last-longer : (n m : ℕ) → n ≤ m → ((j : ℕ) → n ≤ j → j < m → test j ≡ false)
       → up-to-last test m ≡ up-to-last test n
-  last-longer n zero longer fail = ap (up-to-last test) (omega arith)
-  last-longer n (suc m) longer fail =
-      elim (lt-or-le m n) [
-        | inl less ↦ ap (up-to-last test) (same less)
-        | inr more ↦ last-miss m (fail m more (le-refl (suc m)))
-            ∙ last-longer n m more (λ j low high. fail j low (le-step high))
-      ]
-    where
-      same : m < n → suc m ≡ n
-      same less = omega arith
+  last-longer n m longer fail = steady (up-to-last test) n m longer (λ j low high. last-miss j (fail j low high))
 
   -- the last of them passes
   pub last-passes : (n m : ℕ) → up-to-last test n ≡ suc m → test m ≡ true

@@ -14,6 +14,10 @@ use Rattle.laws.specs.Search.{first-least}
 use Rattle.laws.proofs.Cases.{lt-or-le}
 use Rattle.laws.proofs.SignedOrder.{lt-test, le-test, lt-le}
 
+one-either : (b : Bool) → _≡_ {A = ℕ} (cond b 1 1) 1
+one-either true = refl
+one-either false = refl
+
 -- i is the first of 1, .., n at which f is least
 pub record First-least (f : ℕ → ℤ) (n i : ℕ) : Type 0 where
   pub from : 1 ≤ i
@@ -54,11 +58,7 @@ module _ (f : ℕ → ℤ) where
 
   first-least-one : first-least f 1 ≡ 1
   unfolding first-least
-  first-least-one = which (ltZ (f 1) (f 1))
-    where
-      which : (b : Bool) → _≡_ {A = ℕ} (cond b 1 1) 1
-      which true = refl
-      which false = refl
+  first-least-one = one-either (ltZ (f 1) (f 1))
 
   alone : First-least f 1 1
   alone =
@@ -117,11 +117,7 @@ low-first {f} {low} {at} {v} so-far here small =
     }
   where
     place : cond (ltb v low) 1 at ≡ 1
-    place = ap (cond (ltb v low) 1) (so-far .at-is) ∙ which (ltb v low)
-      where
-        which : (b : Bool) → _≡_ {A = ℕ} (cond b 1 1) 1
-        which true = refl
-        which false = refl
+    place = ap (cond (ltb v low) 1) (so-far .at-is) ∙ one-either (ltb v low)
 
     value : v ≡ min low v
     value = omega (arith, so-far .fresh refl)

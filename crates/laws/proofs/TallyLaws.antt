@@ -9,6 +9,7 @@ use lib.Dec.{leb}
 use borrow.Author.Tests.{le-leb, lt-leb}
 use Rattle.laws.specs.Sums.{only, tally}
 use Rattle.laws.proofs.Cases.{lt-or-le, lt-or-last}
+use Rattle.laws.proofs.Falling.{steady}
 use Rattle.laws.proofs.GateLaws.{only-most}
 use Rattle.laws.proofs.SumLaws.{sum-suc, sum-zero, sum-none}
 
@@ -25,13 +26,8 @@ module _ (test : ℕ → Bool) where
 
   -- numbers that fail are not counted
   tally-longer : (n m : ℕ) → n ≤ m → ((j : ℕ) → n ≤ j → j < m → test j ≡ false) → tally m test ≡ tally n test
-  tally-longer n zero longer fail = ap (λ (k : ℕ). tally k test) (omega arith)
-  tally-longer n (suc m) longer fail =
-      elim (lt-or-last n (suc m) (omega arith)) [
-        | inl less ↦ tally-failed m (fail m (omega arith) (omega arith))
-            ∙ tally-longer n m (omega arith) (λ j low high. fail j low (omega arith))
-        | inr all ↦ ap (λ (k : ℕ). tally k test) (sym all)
-      ]
+  tally-longer n m longer fail =
+      let count : ℕ → ℕ = λ k. tally k test in steady count n m longer (λ j low high. tally-failed j (fail j low high))
 
   -- one that passes, and none after it
   pub tally-last : (n m : ℕ) → n < m → test n ≡ true → ((j : ℕ) → n < j → j < m → test j ≡ false)

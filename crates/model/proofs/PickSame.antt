@@ -2,13 +2,11 @@
 -- nothing.
 -- Assumes nothing.
 use mathlib.Core.Path.{_≡_, refl, sym, _∙_, ap}
-use mathlib.Core.Logic.{inl, inr}
 use mathlib.Core.Bool.{Bool, true, false}
 use Prim.Native.Nat.{ℕ, zero, suc, _≤_, _<_}
-use native.Mathlib.Omega.{arith}
 use native.Mathlib.Nat.{le-refl, le-step}
 use Rattle.laws.specs.Search.{Found, at, nowhere}
-use Rattle.laws.proofs.Cases.{lt-or-le}
+use Rattle.laws.proofs.Falling.{steady}
 use Rattle.model.specs.Machine.{Order, first-of, pick}
 use Rattle.model.proofs.PickLaws.{pick-start, pick-skips, pick-tries, pick-below}
 
@@ -16,16 +14,8 @@ module _ (test : ℕ → Bool) (before : Order) where
   -- numbers that fail change nothing
   pub pick-longer : (n m : ℕ) → n ≤ m → ((k : ℕ) → n ≤ k → k < m → test k ≡ false)
       → pick test before m ≡ pick test before n
-  pick-longer n zero longer fail = ap (pick test before) (omega arith)
-  pick-longer n (suc m) longer fail =
-      elim (lt-or-le m n) [
-        | inl less ↦ ap (pick test before) (same less)
-        | inr more ↦ pick-skips test before m (fail m more (le-refl (suc m)))
-            ∙ pick-longer n m more (λ k low high. fail k low (le-step high))
-      ]
-    where
-      same : m < n → suc m ≡ n
-      same less = omega arith
+  pick-longer n m longer fail =
+      steady (pick test before) n m longer (λ k low high. pick-skips test before k (fail k low high))
 
 -- two tests and two orders that agree below n
 pub record Agree (test other : ℕ → Bool) (before after : Order) (n : ℕ) : Type 0 where

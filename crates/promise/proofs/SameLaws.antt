@@ -132,8 +132,5 @@ same-written-is (Bytes m) (Bytes n) h = ap Bytes (eqb→eq m n h)
 same-written-is (Bytes m) (Refused y) h = absurd h
 same-written-is (Refused x) (Bytes n) h = absurd h
 same-written-is (Refused x) (Refused y) h =
-    let numbers = eqb (x .number) (y .number) in
-    let indices = eqb (x .index) (y .index) in
-    let number-is : x .number ≡ y .number = eqb→eq _ _ (both-left numbers indices h) in
-    let index-is : x .index ≡ y .index = eqb→eq _ _ (both-right numbers indices h) in
-    rw (number-is, index-is)
+    same-two (λ number index. Refused (record { number = number; index = index })) (x .number) (x .index) (y .number)
+    (y .index) h

@@ -16,6 +16,7 @@ use Rattle.table.specs.Bytes.{Bytes}
 use Rattle.table.specs.TableOf.{table-of}
 use Rattle.table.specs.WellFormed.{WellFormed}
 use Rattle.table.proofs.Rising.{few-tasks}
+use Rattle.table.proofs.TaskLaws.{well-proper}
 use Rattle.requests.specs.declared.reader.Checked.{Checked}
 use Rattle.requests.specs.declared.reader.Checked.the-variants.{Legal, Refused}
 use Rattle.requests.specs.Entry.{list-of}
@@ -27,7 +28,7 @@ use Rattle.bench.specs.Meaning.{Ended}
 use Rattle.bench.proofs.ReplaySays.{accepted-replayable, run-ends, replay-empty}
 use Rattle.desk.specs.Questions.{by-list, on-list, replays, loads, replay-asked}
 use Rattle.desk.specs.Refusals.{Both-good, Refused-with, Told}
-use Rattle.desk.proofs.TableLaws.{table-refused, table-asked, table-told, well-proper}
+use Rattle.desk.proofs.TableLaws.{table-refused, table-asked, table-told}
 
 module _ {A : Type 0} (ask : Table → Requests → A) (s list : List ℕ) where
   -- ---- from the bytes to the answer

@@ -10,7 +10,6 @@ use Rattle.laws.proofs.Tests.{Catches}
 use Rattle.model.specs.Task as Model
 use Rattle.model.specs.Verdict.{horizon, verdict}
 use Rattle.model.specs.Answer.{Answer, answered, refused}
-use Rattle.table.specs.Bytes.{Bytes}
 use Rattle.table.specs.TableOf.{table-of}
 use Rattle.table.specs.WellFormed.{WellFormed}
 use Rattle.table.specs.Refusals.{Refused-with}
@@ -18,7 +17,6 @@ use Rattle.table.specs.declared.reader.Reading.{Reading}
 use Rattle.table.specs.declared.reader.Reading.the-variants.{Table, Refused}
 use Rattle.table.specs.Reader.{reading-of}
 use Rattle.table.proofs.Exact.{read-good, good-read, read-refused, refused-read}
-use Rattle.table.proofs.TaskLaws.{proper-table}
 use Rattle.desk.specs.Questions.{on-table, refuse-if, verdict-asked}
 
 module _ {A : Type 0} (s : List ℕ) (ask : Model.Table → Answer A) where
@@ -56,11 +54,6 @@ pub test-told : {A : Type 0} {test : Bool} {rule : Type 0} → Catches test rule
     → Told (refuse-if test number rest)
 test-told {test = true} by Told broken kept = broken (by .caught refl)
 test-told {test = false} by Told broken kept = kept (by .passed refl)
-
--- ---- a table of bytes, and its verdict
-
-pub well-proper : {s : List ℕ} → Bytes s → WellFormed s → Model.ProperTable (table-of s)
-well-proper {s} bytes well = proper-table s (λ i. bytes i .fits) well
 
 pub well-judged : (s : List ℕ) → WellFormed s → verdict-asked s ≡ answered (verdict horizon (table-of s))
 unfolding verdict-asked

@@ -21,6 +21,7 @@ use Rattle.model.proofs.OverloadVerdict.{verdict-over}
 use Rattle.table.specs.Bytes.{Bytes}
 use Rattle.table.specs.TableOf.{table-of}
 use Rattle.table.specs.WellFormed.{WellFormed}
+use Rattle.table.proofs.TaskLaws.{well-proper}
 use Rattle.overload.specs.Place.{placed}
 use Rattle.overload.specs.Shows.{Shows}
 use Rattle.overload.proofs.PlaceLaws.{placed-beyond, placed-within}
@@ -28,7 +29,7 @@ use Rattle.overload.proofs.Shown.{list-shows}
 use Rattle.desk.specs.Questions.{verdict-asked}
 use Rattle.desk.specs.Overload.{on-overload, list-at, by-verdict, overload-asked}
 use Rattle.desk.specs.OverloadMeaning.{Overloaded-at, Refused-with, table-bad, refuses-13, refuses-12, Told}
-use Rattle.desk.proofs.TableLaws.{table-refused, table-asked, table-told, well-proper, well-judged}
+use Rattle.desk.proofs.TableLaws.{table-refused, table-asked, table-told, well-judged}
 
 -- ---- the verdict on bytes
 

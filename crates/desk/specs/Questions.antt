@@ -42,10 +42,15 @@ refuse-if test number rest = cond test (refused number 0) rest
 abbrev pub too-far : ℕ → Bool
 too-far t = ltb horizon t
 
+abbrev pub by-time : {A : Type 0} → ℕ → (Table → A) → Table → Answer A
+by-time t ask table = refuse-if (too-far t) 7 (answered (ask table))
+
 -- 9: "no such task"
+abbrev pub by-task : (Task → ℕ → ℕ) → ℕ → ℕ → Table → Answer ℕ
+by-task sum k t table = refuse-if (no-task table k) 9 (refuse-if (too-far t) 7 (answered (sum (table .task k) t)))
+
 abbrev pub one-task : (Task → ℕ → ℕ) → List ℕ → ℕ → ℕ → Answer ℕ
-one-task sum s k t =
-    on-table s (λ table. refuse-if (no-task table k) 9 (refuse-if (too-far t) 7 (answered (sum (table .task k) t))))
+one-task sum s k t = on-table s (by-task sum k t)
 
 unfoldable pub demand-asked : List ℕ → ℕ → ℕ → Answer ℕ
 demand-asked s k t = one-task demand s k t
@@ -54,7 +59,7 @@ unfoldable pub work-asked : List ℕ → ℕ → ℕ → Answer ℕ
 work-asked s k w = one-task work s k w
 
 unfoldable pub margin-asked : List ℕ → ℕ → Answer ℤ
-margin-asked s t = on-table s (λ table. refuse-if (too-far t) 7 (answered (margin table t)))
+margin-asked s t = on-table s (by-time t (λ table. margin table t))
 
 unfoldable pub window-asked : List ℕ → Answer Found
 window-asked s = on-table s (λ table. answered (closing-window horizon table))

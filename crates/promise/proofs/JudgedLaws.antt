@@ -10,8 +10,9 @@ use Rattle.model.proofs.VerdictLaws.{verdict-means, means-only}
 use Rattle.table.specs.Bytes.{Bytes}
 use Rattle.table.specs.TableOf.{table-of}
 use Rattle.table.specs.WellFormed.{WellFormed}
+use Rattle.table.proofs.TaskLaws.{well-proper}
 use Rattle.desk.specs.Questions.{verdict-asked}
-use Rattle.desk.proofs.TableLaws.{answered-well, well-proper, well-judged}
+use Rattle.desk.proofs.TableLaws.{answered-well, well-judged}
 use Rattle.promise.specs.Promises.{Judged-rightly}
 
 -- bytes that get a verdict are a table

@@ -26,7 +26,7 @@ use Rattle.model.specs.Replay.{missed, last-tick}
 use Rattle.table.specs.Bytes.{Bytes, record-of}
 use Rattle.table.specs.Reader.{reading-of}
 use Rattle.table.specs.TableOf.{records-before, records-of, task-of}
-use Rattle.table.proofs.TaskLaws.{proper-table}
+use Rattle.table.proofs.TaskLaws.{well-proper}
 use Rattle.requests.specs.Entry.{entry-of, bytes-to}
 use Rattle.requests.specs.Reader.{check-of}
 use Rattle.bench.specs.Rule.{first-late, first-left, next-in, tick-of, run-of}
@@ -66,6 +66,9 @@ bytes-are [] h i = omega arith
 bytes-are (x ∷ s) h zero = ltb→lt x 256 (both-left (is-byte x) (every is-byte s) h)
 bytes-are (x ∷ s) h (suc i) = bytes-are s (both-right (is-byte x) (every is-byte s) h) i
 
+pub are-bytes : (s : List ℕ) → T (every is-byte s) → Bytes s
+are-bytes s all i = record { fits = bytes-are s all i }
+
 module _ (s : List ℕ) (bytes : T (every is-byte s)) where
   -- of a table that was read, whatever is asked of its verdict may be asked of the walk
   walked : {A : Type 0} (ask : Table.Table → Verdict → Answer A)
@@ -73,7 +76,7 @@ module _ (s : List ℕ) (bytes : T (every is-byte s)) where
   walked {A} ask =
       table-told s (λ table. ask table (verdict horizon table)) (λ said. on-table s by-steps ≡ said)
       (λ number index bad. table-refused s by-steps bad)
-      (λ well. table-asked s by-steps well ∙ rw (walk-is (proper-table s (bytes-are s bytes) well) horizon))
+      (λ well. table-asked s by-steps well ∙ rw (walk-is (well-proper (are-bytes s bytes) well) horizon))
     where
       by-steps : Table.Table → Answer A
       by-steps table = ask table (walk table horizon 1)
@@ -125,9 +128,6 @@ pub no-row : Row
 no-row = record { bytes = B; question = demand-of 0 0; says = answered 0 }
 
 -- ---- A's and B's bytes are bytes; and K5 by itself, row 14
-
-pub are-bytes : (s : List ℕ) → T (every is-byte s) → Bytes s
-are-bytes s all i = record { fits = bytes-are s all i }
 
 pub A-bytes : Bytes A
 unfolding A is-byte every

@@ -4,24 +4,22 @@ use mathlib.Core.Path.{_≡_, subst, _∙_}
 use mathlib.Core.List.{List}
 use Prim.Native.Nat.{ℕ, _≤_, _<_}
 use borrow.Author.Tests.{le-ltb, lt-leb}
-use Rattle.model.specs.Task.{Task, Table}
+use Rattle.model.specs.Task.{Task}
 use Rattle.model.specs.Demand.{demand, work, margin}
 use Rattle.model.specs.Verdict.{horizon, closing-window}
-use Rattle.model.specs.Request.{no-task}
-use Rattle.model.specs.Answer.{Answer, answered}
+use Rattle.model.specs.Answer.{answered}
 use Rattle.table.specs.Bytes.{Bytes}
 use Rattle.table.specs.TableOf.{table-of}
 use Rattle.table.specs.WellFormed.{WellFormed}
 use Rattle.requests.specs.Entry.{list-of}
 use Rattle.requests.specs.Accepted.{Accepted}
-use Rattle.desk.specs.Questions.{refuse-if, too-far, one-task, counts, replays, demand-asked, work-asked, margin-asked, window-asked, list-asked}
+use Rattle.desk.specs.Questions.{by-time, by-task, one-task, counts, replays, demand-asked, work-asked, margin-asked, window-asked, list-asked}
 use Rattle.desk.specs.ResponseMeaning.{Told}
+use Rattle.desk.proofs.TableLaws.{table-asked, well-judged}
 use Rattle.desk.proofs.ListExact.{good-answered, replay-means}
 use Rattle.desk.proofs.ResponseExact.{frame-answered, response-told}
 use Rattle.promise.specs.Numbers.{Replayed-rightly, Numbers}
 use Rattle.promise.proofs.BenchLaws.{loaded-rightly}
-use Rattle.promise.proofs.ExactLaws.{table-asked}
-use Rattle.promise.proofs.JudgedLaws.{well-judged}
 use Rattle.promise.proofs.PassedLaws.{accepted-replayed}
 
 module _ (s : List ℕ) (well : WellFormed s) where
@@ -29,15 +27,12 @@ module _ (s : List ℕ) (well : WellFormed s) where
   one-answered : (sum : Task → ℕ → ℕ) (k t : ℕ) → k < table-of s .tasks → t ≤ horizon
       → one-task sum s k t ≡ answered (sum (table-of s .task k) t)
   one-answered sum k t known near =
-      table-asked s ask well ∙ rw (lt-leb (table-of s .tasks) k known, le-ltb horizon t near)
-    where
-      ask : Table → Answer ℕ
-      ask table = refuse-if (no-task table k) 9 (refuse-if (too-far t) 7 (answered (sum (table .task k) t)))
+      table-asked s (by-task sum k t) well ∙ rw (lt-leb (table-of s .tasks) k known, le-ltb horizon t near)
 
   margin-answered : (t : ℕ) → t ≤ horizon → margin-asked s t ≡ answered (margin (table-of s) t)
   unfolding margin-asked
   margin-answered t near =
-      table-asked s (λ table. refuse-if (too-far t) 7 (answered (margin table t))) well ∙ rw (le-ltb horizon t near)
+      table-asked s (by-time t (λ table. margin table t)) well ∙ rw (le-ltb horizon t near)
 
   window-answered : window-asked s ≡ answered (closing-window horizon (table-of s))
   unfolding window-asked

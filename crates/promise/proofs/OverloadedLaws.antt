@@ -18,6 +18,7 @@ use Rattle.model.proofs.MissLaws.{too-much-misses}
 use Rattle.table.specs.Bytes as Table
 use Rattle.table.specs.TableOf.{table-of}
 use Rattle.table.specs.WellFormed.{WellFormed}
+use Rattle.table.proofs.TaskLaws.{well-proper}
 use Rattle.requests.specs.Entry.{list-of}
 use Rattle.requests.specs.Accepted.{Accepted}
 use Rattle.overload.specs.declared.write.Written.the-variants.{Bytes}
@@ -27,7 +28,7 @@ use Rattle.desk.specs.Questions.{replays, verdict-asked, replay-asked}
 use Rattle.desk.specs.Overload.{list-at, overload-asked}
 use Rattle.desk.specs.OverloadMeaning.{Overloaded-at}
 use Rattle.desk.proofs.ListExact.{replay-means}
-use Rattle.desk.proofs.TableLaws.{well-judged, well-proper}
+use Rattle.desk.proofs.TableLaws.{well-judged}
 use Rattle.desk.proofs.WritingExact.{over-at, over-judged, over-shows, over-written}
 use Rattle.desk.proofs.WritingLeft.{wrote-leaves}
 use Rattle.promise.specs.Promises.{Replays-missed, Overloaded}

@@ -17,11 +17,11 @@ use Rattle.model.proofs.MissLaws.{done-not-missed}
 use Rattle.table.specs.Bytes.{Bytes}
 use Rattle.table.specs.TableOf.{table-of}
 use Rattle.table.specs.WellFormed.{WellFormed}
+use Rattle.table.proofs.TaskLaws.{well-proper}
 use Rattle.requests.specs.Entry.{list-of}
 use Rattle.requests.specs.Accepted.{Accepted}
 use Rattle.requests.proofs.AcceptedLaws.{accepted-legal}
 use Rattle.desk.specs.Questions.{replays, verdict-asked, replay-asked}
-use Rattle.desk.proofs.TableLaws.{well-proper}
 use Rattle.desk.proofs.ListExact.{good-answered, replay-means}
 use Rattle.promise.specs.Promises.{Finishes-each, Replays-met, Passed}
 use Rattle.promise.proofs.JudgedLaws.{judged-well, judged-means}

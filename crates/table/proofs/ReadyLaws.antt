@@ -22,7 +22,7 @@ use Rattle.table.specs.declared.reader.Reading.the-variants.{Table}
 use Rattle.table.proofs.Exact.{shaped}
 use Rattle.table.proofs.Rising.{few-tasks}
 use Rattle.table.proofs.Stands.{Planned, Plans, plans}
-use Rattle.table.proofs.TaskLaws.{task-count, task-E, task-D, task-P, proper-table}
+use Rattle.table.proofs.TaskLaws.{task-count, task-E, task-D, task-P, well-proper}
 
 -- a caller that has read a table and made its plan is ready
 pub ready-read : (s : List ℕ) (shape : Shape) {plan : Plan} → reading-of s ≡ Table shape
@@ -50,7 +50,7 @@ module _ {s : List ℕ} {plan : Plan} (ready : Ready s plan) where
   ready-few = few-tasks (ready .good)
 
   pub ready-proper : Bytes s → ProperTable (table-of s)
-  ready-proper bytes = proper-table s (λ i. bytes i .fits) (ready .good)
+  ready-proper bytes = well-proper bytes (ready .good)
 
   module _ (k : ℕ) (inside : k < plan .tasks) where
     pub ready-here : k < table-of s .tasks

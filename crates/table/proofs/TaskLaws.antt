@@ -6,7 +6,7 @@ use mathlib.Core.List.{List}
 use lib.ListN.{getD}
 use native.Mathlib.Omega.{arith}
 use Rattle.model.specs.Task.{Proper, ProperTable}
-use Rattle.table.specs.Bytes.{size, records, half, record-of}
+use Rattle.table.specs.Bytes.{Bytes, size, records, half, record-of}
 use Rattle.table.specs.WellFormed.{Good, WellFormed}
 use Rattle.table.specs.TableOf.{records-before, records-of, task-of, table-of}
 use Rattle.table.proofs.Rising.{few-tasks}
@@ -61,13 +61,14 @@ module _ (s : List ℕ) (bytes : (i : ℕ) → getD s i 0 < 256) where
         moves = λ i within. good i within .not-zero .p;
       }
 
-pub proper-table : (s : List ℕ) → ((i : ℕ) → getD s i 0 < 256) → WellFormed s → ProperTable (table-of s)
-proper-table s bytes well = record { some = omega arith; few = few-tasks well; proper = proper }
+-- what is read as a table has numbers in their bounds
+pub well-proper : {s : List ℕ} → Bytes s → WellFormed s → ProperTable (table-of s)
+well-proper {s} bytes well = record { some = omega arith; few = few-tasks well; proper = proper }
   where
     first : ℕ → ℕ
     first = records-before (records s) s
 
     proper : (k : ℕ) → k < table-of s .tasks → Proper (table-of s .task k)
     proper k below =
-        task-proper s bytes (first k) (records-of (records s) s k) (run-some well k below) (run-few well k)
-        (λ i within. well .good (first k + i) (omega (arith, run-within (records s) s k)))
+        task-proper s (λ i. bytes i .fits) (first k) (records-of (records s) s k) (run-some well k below)
+        (run-few well k) (λ i within. well .good (first k + i) (omega (arith, run-within (records s) s k)))

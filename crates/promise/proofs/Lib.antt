@@ -7,6 +7,7 @@ pub mod ResponseExample
 pub mod OneAnswerLaws
 pub mod JudgedLaws
 pub mod PassedLaws
+pub mod PassedExample
 pub mod OverloadedLaws
 pub mod ExactLaws
 pub mod SumExact

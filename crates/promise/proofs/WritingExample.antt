@@ -72,7 +72,7 @@ B-full = full-of (B-untouched .refusal)
 
 -- ---- K2, row 8: "A fits", so that every question for its overload list is refused 13
 
-K2 : verdict-asked A ≡ answered (fits 8 (pos 0) 2)
+pub K2 : verdict-asked A ≡ answered (fits 8 (pos 0) 2)
 unfolding named
 K2 = named-right 8 (lit< tt) no-row
 

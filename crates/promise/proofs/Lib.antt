@@ -9,6 +9,7 @@ pub mod JudgedLaws
 pub mod PassedLaws
 pub mod PassedExample
 pub mod OverloadedLaws
+pub mod OverloadedExample
 pub mod ExactLaws
 pub mod SumExact
 pub mod RefusalLaws

@@ -26,12 +26,12 @@ use Rattle.desk.proofs.WritingLeft.{wrote-leaves}
 
 -- ---- K4, rows 10, 12 and 13: "overloaded at 2", "In a 20-byte buffer from place 2 ..; from place 5, refusal 12."
 
-K4-verdict : verdict-asked B ≡ answered (overloaded 2 (negsuc 0) (1 ∷ replicate 15 0))
+pub K4-verdict : verdict-asked B ≡ answered (overloaded 2 (negsuc 0) (1 ∷ replicate 15 0))
 unfolding named
 K4-verdict = named-right 10 (lit< tt) no-row
 
 -- what a row says that a writer leaves is what its contract says
-row-wrote : (s buffer : List ℕ) (place : ℕ) {left : Leaves} → said s (overload-into buffer place) ≡ left
+pub row-wrote : (s buffer : List ℕ) (place : ℕ) {left : Leaves} → said s (overload-into buffer place) ≡ left
     → Wrote buffer place (overload-asked s buffer place) (left .answer) (left .buffer)
 row-wrote s buffer place row =
     record { answer-is = sym (ap (λ left. left .answer) row); buffer-is = sym (ap (λ left. left .buffer) row) }

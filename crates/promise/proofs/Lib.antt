@@ -6,6 +6,7 @@ pub mod WritingExample
 pub mod ResponseExample
 pub mod OneAnswerLaws
 pub mod JudgedLaws
+pub mod UndecidedExample
 pub mod PassedLaws
 pub mod PassedExample
 pub mod OverloadedLaws

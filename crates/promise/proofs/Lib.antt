@@ -9,6 +9,7 @@ pub mod JudgedLaws
 pub mod UndecidedExample
 pub mod PassedLaws
 pub mod PassedExample
+pub mod LegalNeeded
 pub mod OverloadedLaws
 pub mod OverloadedExample
 pub mod ExactLaws

@@ -8,6 +8,7 @@ pub mod WalkLaws
 pub mod Walking
 pub mod StartLaws
 pub mod VerdictLaws
+pub mod LoneTask
 pub mod EachTick
 pub mod PickLaws
 pub mod OrderLaws

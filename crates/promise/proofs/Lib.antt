@@ -6,12 +6,15 @@ pub mod WritingExample
 pub mod ResponseExample
 pub mod OneAnswerLaws
 pub mod JudgedLaws
+pub mod LoneExample
 pub mod UndecidedExample
 pub mod PassedLaws
 pub mod PassedExample
 pub mod LegalNeeded
 pub mod OverloadedLaws
 pub mod OverloadedExample
+pub mod LimitExample
+pub mod LongestExample
 pub mod ExactLaws
 pub mod SumExact
 pub mod RefusalLaws

@@ -33,15 +33,24 @@ F =
 unfoldable pub K7-task : List ℕ
 K7-task = rec 0 3 2 2 2 ++ rec 0 3 1 20 1 ++ rec 0 3 2 2 10
 
--- (E,65535,1), E by its two bytes: "(21846,65535,1) is undecided. (2,65535,1) is undecided."
+-- (E,65535,1), E by its two bytes: "(2,65535,1) is undecided"
 abbrev pub each-tick : ℕ → ℕ → List ℕ
 each-tick low high = 0 ∷ 1 ∷ low ∷ high ∷ 255 ∷ 255 ∷ 1 ∷ 0 ∷ []
 
 unfoldable pub U : List ℕ
 U = each-tick 2 0
 
+-- "(21846,65535,1) is undecided"
 unfoldable pub U-longer : List ℕ
 U-longer = each-tick 86 85
+
+-- "(32769,65535,1) is overloaded at 65,536, margin -2."
+unfoldable pub U-over : List ℕ
+U-over = each-tick 1 128
+
+-- "(65535,65535,65535) fits: window 65,535, margin 0 there."
+unfoldable pub longest : List ℕ
+longest = 0 ∷ 1 ∷ 255 ∷ 255 ∷ 255 ∷ 255 ∷ 255 ∷ 255 ∷ []
 
 -- one request: task, frame, an arrival below 256
 abbrev pub req : ℕ → ℕ → ℕ → List ℕ

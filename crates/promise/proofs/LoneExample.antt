@@ -7,7 +7,7 @@ use lib.Dec.{T}
 use Rattle.laws.specs.Sums.{sum}
 use Rattle.laws.specs.Reader.{read-on, read-all}
 use Rattle.laws.proofs.Every.{every}
-use Rattle.model.specs.Task.{ProperTable}
+use Rattle.model.specs.Task.{Table, ProperTable}
 use Rattle.model.specs.Verdict.{horizon, Verdict}
 use Rattle.model.specs.Meaning.{Means}
 use Rattle.model.specs.Answer.{answered}
@@ -18,10 +18,11 @@ use Rattle.table.specs.Reader.{reading-of}
 use Rattle.table.specs.TableOf.{records-before, records-of, task-of, table-of}
 use Rattle.table.specs.WellFormed.{WellFormed}
 use Rattle.table.proofs.Exact.{read-good}
+use Rattle.table.proofs.TaskLaws.{well-proper}
 use Rattle.desk.specs.Questions.{verdict-asked}
 use Rattle.promise.specs.Tables.{U, U-longer, U-over, longest}
 use Rattle.promise.proofs.NamedLaws.{is-byte, are-bytes}
-use Rattle.promise.proofs.JudgedLaws.{well-proper, judged-rightly}
+use Rattle.promise.proofs.JudgedLaws.{judged-rightly}
 
 -- the bytes are the table (e,d,p)
 pub record Reads (s : List ℕ) (e d p : ℕ) : Type 0 where
@@ -43,38 +44,27 @@ module _ {s : List ℕ} {e d p : ℕ} (reads : Reads s e d p) where
   pub lone-judged : (v : Verdict) → Means horizon (table-of s) v → verdict-asked s ≡ answered v
   lone-judged = judged-rightly s lone-bytes lone-well .only
 
+-- each is computed
+reads-so : {s : List ℕ} {e d p : ℕ} → T (every is-byte s)
+    → reading-of s ≡ reading.Table (record { records = 1; tasks = 1 }) → Lone (table-of s) e d p → Reads s e d p
+reads-so all-bytes read lone = record { all-bytes = all-bytes; read = read; lone = lone }
+
+lone-so : {table : Table} {e d p : ℕ} → table .tasks ≡ 1 → table .task 0 .count ≡ 1
+    → table .task 0 .E 0 ≡ e → table .task 0 .D 0 ≡ d → table .task 0 .P 0 ≡ p → Lone table e d p
+lone-so tasks count E D P = record { one-task = tasks; one-frame = count; E-is = E; D-is = D; P-is = P }
+
 pub U-reads : Reads U 2 65535 1
 unfolding U is-byte every reading-of read-all read-on record-of records-before records-of task-of sum
-U-reads =
-    record {
-      all-bytes = tt;
-      read = refl;
-      lone = record { one-task = refl; one-frame = refl; E-is = refl; D-is = refl; P-is = refl };
-    }
+U-reads = reads-so tt refl (lone-so refl refl refl refl refl)
 
 pub U-longer-reads : Reads U-longer 21846 65535 1
 unfolding U-longer is-byte every reading-of read-all read-on record-of records-before records-of task-of sum
-U-longer-reads =
-    record {
-      all-bytes = tt;
-      read = refl;
-      lone = record { one-task = refl; one-frame = refl; E-is = refl; D-is = refl; P-is = refl };
-    }
+U-longer-reads = reads-so tt refl (lone-so refl refl refl refl refl)
 
 pub U-over-reads : Reads U-over 32769 65535 1
 unfolding U-over is-byte every reading-of read-all read-on record-of records-before records-of task-of sum
-U-over-reads =
-    record {
-      all-bytes = tt;
-      read = refl;
-      lone = record { one-task = refl; one-frame = refl; E-is = refl; D-is = refl; P-is = refl };
-    }
+U-over-reads = reads-so tt refl (lone-so refl refl refl refl refl)
 
 pub longest-reads : Reads longest 65535 65535 65535
 unfolding longest is-byte every reading-of read-all read-on record-of records-before records-of task-of sum
-longest-reads =
-    record {
-      all-bytes = tt;
-      read = refl;
-      lone = record { one-task = refl; one-frame = refl; E-is = refl; D-is = refl; P-is = refl };
-    }
+longest-reads = reads-so tt refl (lone-so refl refl refl refl refl)

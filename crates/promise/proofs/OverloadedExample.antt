@@ -11,7 +11,7 @@ use Rattle.laws.specs.Search.{at}
 use Rattle.model.specs.Jobs.{Jobs, jobs-of}
 use Rattle.model.specs.Machine.{sooner, pick, left-at}
 use Rattle.model.specs.Schedule.{Schedule, units}
-use Rattle.model.proofs.MachineService.{machine-serves}
+use Rattle.model.specs.Service.{machine-serves}
 use Rattle.table.specs.Bytes.{record-of}
 use Rattle.table.specs.TableOf.{records-before, records-of, task-of, table-of}
 use Rattle.requests.specs.Entry.{entry-of, list-of}
@@ -24,14 +24,14 @@ use Rattle.promise.proofs.ListExample.{B-good}
 use Rattle.promise.proofs.WritingExample.{K4-verdict, row-wrote}
 use Rattle.promise.proofs.OverloadedLaws.{overloaded-shown}
 
-pub B-overloaded : Overloaded B
-B-overloaded = overloaded-shown B B-bytes K4-verdict
+pub B-promised : Overloaded B
+B-promised = overloaded-shown B B-bytes K4-verdict
 
 -- K4, row 11: read back from a buffer of sixteen bytes
-pub B-shows : B-overloaded .list ≡ B-list
+pub B-writes-it : B-promised .list ≡ B-list
 unfolding named B-list
-B-shows =
-    sym (B-overloaded .read-back (replicate 16 255) 0 16 B-list
+B-writes-it =
+    sym (B-promised .read-back (replicate 16 255) 0 16 B-list
     (row-wrote B (replicate 16 255) 0 (named-right 11 (lit< tt) no-row)))
 
 -- ---- no schedule finishes both requests
@@ -40,7 +40,7 @@ abbrev pub B-jobs : Jobs
 B-jobs = jobs-of (table-of B) (list-of B-list)
 
 pub B-none : No-schedule (table-of B) (list-of B-list)
-B-none = subst (λ list. No-schedule (table-of B) (list-of list)) B-shows (B-overloaded .no-schedule)
+B-none = subst (λ list. No-schedule (table-of B) (list-of list)) B-writes-it (B-promised .no-schedule)
 
 -- the machine's own gives both ticks to request 0, which asks for two
 abbrev pub its-own : Schedule
@@ -74,8 +74,8 @@ other-leaves = which (B-none other-first .job) (B-none other-first .inside) (B-n
 
 pub B-missed : Replays-missed B B-list
 B-missed =
-    subst (Replays-missed B) B-shows
-    (B-overloaded .replays (subst (Accepted (table-of B)) (sym B-shows) (B-good .list-good)))
+    subst (Replays-missed B) B-writes-it
+    (B-promised .replays (subst (Accepted (table-of B)) (sym B-writes-it) (B-good .list-good)))
 
 pub B-missed-at : (B-missed .tick ≡ 2) × (B-missed .index ≡ 1)
 B-missed-at = (cc (B-missed .is, K5), cc (B-missed .is, K5))

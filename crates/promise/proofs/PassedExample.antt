@@ -23,6 +23,7 @@ use Rattle.model.proofs.DemandLaws.{demand-moves}
 use Rattle.table.specs.Bytes.{record-of}
 use Rattle.table.specs.Reader.{reading-of}
 use Rattle.table.specs.TableOf.{records-before, records-of, task-of, table-of}
+use Rattle.table.proofs.TaskLaws.{well-proper}
 use Rattle.requests.specs.Entry.{entry-of}
 use Rattle.requests.specs.Reader.{check-of}
 use Rattle.requests.specs.Accepted.{Accepted}
@@ -35,7 +36,6 @@ use Rattle.promise.specs.Tables.{A, req}
 use Rattle.promise.specs.Promises.{Finishes-each, Passed}
 use Rattle.promise.proofs.NamedLaws.{A-bytes}
 use Rattle.promise.proofs.WritingExample.{K2, A-calm}
-use Rattle.promise.proofs.JudgedLaws.{well-proper}
 use Rattle.promise.proofs.PassedLaws.{passed}
 
 pub A-passed : Passed A

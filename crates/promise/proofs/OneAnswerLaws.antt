@@ -6,35 +6,39 @@ use mathlib.Core.List.{List}
 use Prim.Native.Nat.{ℕ}
 use denote.Ref.{RefT, now, at-last}
 use Rattle.model.specs.Answer.{Answer}
-use Rattle.overload.specs.Place.{written-of, buffer-after}
+use Rattle.overload.specs.Place.{buffer-after}
 use Rattle.desk.specs.Overload.{overload-asked}
 use Rattle.promise.specs.OneAnswer.{One-answer, no-buffer, One-answer-each}
 
 -- the contract says of a call what the answer is and what the buffers are afterwards, and a return can be so
-record Equation {Args Result Buffers : Type 0} (contract : Args → Result → Args → Type 0) (buffers : Args → Buffers) :
-    Type 0 where
-  answer : Args → Result
+record Equation {Args Result Buffers : Type 0} (asked : Args → Type 0) (contract : Args → Result → Args → Type 0)
+    (meaning : Args → Result) (buffers : Args → Buffers) : Type 0 where
   exit : Args → Args
-  answer-is : (a : Args) (r : Result) (x : Args) → contract a r x → r ≡ answer a
+  free : (a : Args) → asked a
+  answer-is : (a : Args) (r : Result) (x : Args) → contract a r x → r ≡ meaning a
   buffers-are : (a : Args) (r : Result) (x : Args) → contract a r x → buffers x ≡ buffers (exit a)
-  met : (a : Args) → contract a (answer a) (exit a)
+  met : (a : Args) → contract a (meaning a) (exit a)
 
-equation-one : {Args Result Buffers : Type 0} {contract : Args → Result → Args → Type 0} {buffers : Args → Buffers}
-    → Equation contract buffers → One-answer contract buffers
-equation-one equation =
+equation-one : {Args Result Buffers : Type 0} {asked : Args → Type 0} {contract : Args → Result → Args → Type 0}
+    {meaning : Args → Result} {buffers : Args → Buffers}
+    → Equation asked contract meaning buffers → One-answer asked contract meaning buffers
+equation-one {meaning = meaning} equation =
     record {
-      some = λ a. record { answer = equation .answer a; exit = equation .exit a; is = equation .met a };
+      free = equation .free;
+      some = λ a. record { answer = meaning a; exit = equation .exit a; is = equation .met a };
+      means = equation .answer-is;
       one-answer = λ a r q x y one other. equation .answer-is a r x one ∙ sym (equation .answer-is a q y other);
       one-buffer = λ a r q x y one other. equation .buffers-are a r x one ∙ sym (equation .buffers-are a q y other);
     }
 
 -- a contract `r ≡ ..`, of a function that is lent nothing to write into
-says : {Args Result : Type 0} {contract : Args → Result → Args → Type 0} (answer : Args → Result)
-    → ((a : Args) (r : Result) (x : Args) → contract a r x → r ≡ answer a) → ((a : Args) → contract a (answer a) a)
-    → One-answer contract no-buffer
-says answer is met =
+says : {Args Result : Type 0} {asked : Args → Type 0} {contract : Args → Result → Args → Type 0}
+    {meaning : Args → Result} → ((a : Args) → asked a)
+    → ((a : Args) (r : Result) (x : Args) → contract a r x → r ≡ meaning a) → ((a : Args) → contract a (meaning a) a)
+    → One-answer asked contract meaning no-buffer
+says free is met =
     equation-one
-    (record { answer = answer; exit = λ a. a; answer-is = is; buffers-are = λ a r x allowed. refl; met = met })
+    (record { exit = λ a. a; free = free; answer-is = is; buffers-are = λ a r x allowed. refl; met = met })
 
 -- ---- the writer's, which is lent a buffer
 
@@ -52,26 +56,26 @@ left a = (a .0, (at-last (a .1 .0) (buffer-after (now (a .1 .0)) (a .1 .1 .0) (t
 pub one-answer-each : One-answer-each
 one-answer-each =
     record {
-      read_table = λ κs. says _ (λ a r x is. is) (λ a. refl);
-      demand = λ κs. says _ (λ a r x is. is) (λ a. refl);
-      work = λ κs. says _ (λ a r x is. is) (λ a. refl);
-      margin = λ κs. says _ (λ a r x is. is) (λ a. refl);
-      closing_window = λ κs. says _ (λ a r x is. is) (λ a. refl);
-      judge = λ κs. says _ (λ a r x is. is) (λ a. refl);
-      respond = λ κs. says _ (λ a r x is. is) (λ a. refl);
+      read_table = λ κs. says (λ a. tt) (λ a r x is. is) (λ a. refl);
+      demand = λ κs. says (λ a. tt) (λ a r x is. is) (λ a. refl);
+      work = λ κs. says (λ a. tt) (λ a r x is. is) (λ a. refl);
+      margin = λ κs. says (λ a. tt) (λ a r x is. is) (λ a. refl);
+      closing_window = λ κs. says (λ a. tt) (λ a r x is. is) (λ a. refl);
+      judge = λ κs. says (λ a. tt) (λ a r x is. is) (λ a. refl);
+      respond = λ κs. says (λ a. tt) (λ a r x is. is) (λ a. refl);
       write_overload = λ κs.
           equation-one
           (record {
-            answer = λ a. written-of (to-write a);
             exit = left;
+            free = λ a. tt;
             answer-is = λ a r x wrote. wrote .answer-is;
             buffers-are = λ a r x wrote. wrote .buffer-is;
             met = λ a. record { answer-is = refl; buffer-is = refl };
           });
-      check_list = λ κs. says _ (λ a r x is. is) (λ a. refl);
-      load = λ κs. says _ (λ a r x is. is) (λ a. refl);
-      replay = λ κs. says _ (λ a r x is. is) (λ a. refl);
-      tick = λ κs. says _ (λ a r x is. is) (λ a. refl);
-      run = λ κs. says _ (λ a r x is. is) (λ a. refl);
-      finish = λ κs. says _ (λ a r x is. is) (λ a. refl);
+      check_list = λ κs. says (λ a. tt) (λ a r x is. is) (λ a. refl);
+      load = λ κs. says (λ a. tt) (λ a r x is. is) (λ a. refl);
+      replay = λ κs. says (λ a. tt) (λ a r x is. is) (λ a. refl);
+      tick = λ κs. says (λ a. tt) (λ a r x is. is) (λ a. refl);
+      run = λ κs. says (λ a. tt) (λ a r x is. is) (λ a. refl);
+      finish = λ κs. says (λ a. tt) (λ a r x is. is) (λ a. refl);
     }

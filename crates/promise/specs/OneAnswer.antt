@@ -1,12 +1,21 @@
 -- One answer only: document 01, "Nothing left loose": "any pair of answers allowed by it are the same". The contracts
--- are the checker's own: `Learnt` is what the caller of a function is told of its arguments, its answer and what the
--- arguments are at the return. A contract that changes changes here by itself.
+-- are the checker's own: `Asked` is what a function requires of its caller, `Learnt` what the caller is told of the
+-- arguments, the answer and what the arguments are at the return. A contract that changes changes here by itself.
 -- Assumes nothing.
 use mathlib.Core.Path.{_≡_}
 use mathlib.Core.List.{List}
 use Prim.Native.Nat.{ℕ}
 use contract.Lifetimes.{Lfts}
 use denote.Ref.{RefT, now}
+use Rattle.table.specs.Reader.{reading-of}
+use Rattle.overload.specs.Place.{written-of}
+use Rattle.bench.specs.Rule.{tick-of}
+use Rattle.bench.specs.Loaded.{run-whole, end-of}
+use Rattle.bench.specs.Written.{replayed-of}
+use Rattle.desk.specs.Questions.{demand-asked, work-asked, margin-asked, window-asked, verdict-asked, list-asked, replay-asked}
+use Rattle.desk.specs.Overload.{overload-asked}
+use Rattle.desk.specs.Response.{response-asked}
+use Rattle.desk.specs.Written.{amount-of, spare-of, window-of, judgement-of, reply-of, checked-of, loading-of, ending-of}
 use Rattle.desk.proofs.read_table.Reads as read_table
 use Rattle.desk.proofs.demand.Reads as demand
 use Rattle.desk.proofs.work.Reads as work
@@ -28,10 +37,15 @@ pub record Allowed {Args Result Exit : Type 0} (contract : Args → Result → E
   pub exit : Exit
   pub is : contract a answer exit
 
--- two answers that the contract allows are equal, and so are the lent buffers as two returns leave them
-pub record One-answer {Args Result Exit Buffers : Type 0} (contract : Args → Result → Exit → Type 0)
-    (buffers : Exit → Buffers) : Type 0 where
+-- a function that requires `asked` of its arguments and promises `contract`: its answer is `meaning`. So two answers that
+-- the contract allows are equal, and so are the lent buffers as two returns leave them
+pub record One-answer {Args Result Exit Buffers : Type 0} (asked : Args → Type 0)
+    (contract : Args → Result → Exit → Type 0) (meaning : Args → Result) (buffers : Exit → Buffers) : Type 0 where
+  -- "Any bytes may be handed in": nothing is required of a caller
+  pub free : (a : Args) → asked a
   pub some : (a : Args) → Allowed contract a
+  -- the answer is the one that the document gives
+  pub means : (a : Args) (r : Result) (x : Exit) → contract a r x → r ≡ meaning a
   pub one-answer : (a : Args) (r q : Result) (x y : Exit) → contract a r x → contract a q y → r ≡ q
   pub one-buffer : (a : Args) (r q : Result) (x y : Exit) → contract a r x → contract a q y → buffers x ≡ buffers y
 
@@ -45,17 +59,36 @@ second x = now (x .1 .0)
 
 -- every public function: of the desk, and of the bench that `load` hands out
 pub record One-answer-each : Type 0 where
-  pub read_table : (κs : Lfts 1) → One-answer (read_table.Learnt κs) no-buffer
-  pub demand : (κs : Lfts 1) → One-answer (demand.Learnt κs) no-buffer
-  pub work : (κs : Lfts 1) → One-answer (work.Learnt κs) no-buffer
-  pub margin : (κs : Lfts 1) → One-answer (margin.Learnt κs) no-buffer
-  pub closing_window : (κs : Lfts 1) → One-answer (closing_window.Learnt κs) no-buffer
-  pub judge : (κs : Lfts 1) → One-answer (judge.Learnt κs) no-buffer
-  pub respond : (κs : Lfts 1) → One-answer (respond.Learnt κs) no-buffer
-  pub write_overload : (κs : Lfts 2) → One-answer (write_overload.Learnt κs) second
-  pub check_list : (κs : Lfts 2) → One-answer (check_list.Learnt κs) no-buffer
-  pub load : (κs : Lfts 2) → One-answer (load.Learnt κs) no-buffer
-  pub replay : (κs : Lfts 2) → One-answer (replay.Learnt κs) no-buffer
-  pub tick : (κs : Lfts 0) → One-answer (tick.Learnt κs) no-buffer
-  pub run : (κs : Lfts 0) → One-answer (run.Learnt κs) no-buffer
-  pub finish : (κs : Lfts 0) → One-answer (finish.Learnt κs) no-buffer
+  pub read_table : (κs : Lfts 1) →
+      One-answer (read_table.Asked κs) (read_table.Learnt κs) (λ a. reading-of (now (a .0))) no-buffer
+  pub demand : (κs : Lfts 1) →
+      One-answer (demand.Asked κs) (demand.Learnt κs)
+      (λ a. amount-of (demand-asked (now (a .0)) (a .1 .0) (a .1 .1 .0))) no-buffer
+  pub work : (κs : Lfts 1) →
+      One-answer (work.Asked κs) (work.Learnt κs)
+      (λ a. amount-of (work-asked (now (a .0)) (a .1 .0) (a .1 .1 .0))) no-buffer
+  pub margin : (κs : Lfts 1) →
+      One-answer (margin.Asked κs) (margin.Learnt κs) (λ a. spare-of (margin-asked (now (a .0)) (a .1 .0))) no-buffer
+  pub closing_window : (κs : Lfts 1) →
+      One-answer (closing_window.Asked κs) (closing_window.Learnt κs)
+      (λ a. window-of (window-asked (now (a .0)))) no-buffer
+  pub judge : (κs : Lfts 1) →
+      One-answer (judge.Asked κs) (judge.Learnt κs) (λ a. judgement-of (verdict-asked (now (a .0)))) no-buffer
+  pub respond : (κs : Lfts 1) →
+      One-answer (respond.Asked κs) (respond.Learnt κs)
+      (λ a. reply-of (response-asked (now (a .0)) (a .1 .0) (a .1 .1 .0))) no-buffer
+  pub write_overload : (κs : Lfts 2) →
+      One-answer (write_overload.Asked κs) (write_overload.Learnt κs)
+      (λ a. written-of (overload-asked (now (a .0)) (now (a .1 .0)) (a .1 .1 .0))) second
+  pub check_list : (κs : Lfts 2) →
+      One-answer (check_list.Asked κs) (check_list.Learnt κs)
+      (λ a. checked-of (list-asked (now (a .0)) (now (a .1 .0)))) no-buffer
+  pub load : (κs : Lfts 2) →
+      One-answer (load.Asked κs) (load.Learnt κs) (λ a. loading-of (now (a .0)) (now (a .1 .0))) no-buffer
+  pub replay : (κs : Lfts 2) →
+      One-answer (replay.Asked κs) (replay.Learnt κs)
+      (λ a. ending-of (replay-asked (now (a .0)) (now (a .1 .0)))) no-buffer
+  pub tick : (κs : Lfts 0) → One-answer (tick.Asked κs) (tick.Learnt κs) (λ a. tick-of (a .0)) no-buffer
+  pub run : (κs : Lfts 0) → One-answer (run.Asked κs) (run.Learnt κs) (λ a. run-whole (a .0)) no-buffer
+  pub finish : (κs : Lfts 0) →
+      One-answer (finish.Asked κs) (finish.Learnt κs) (λ a. replayed-of (end-of (a .0))) no-buffer

@@ -1,9 +1,6 @@
 -- The three demands are kept, of any bytes.
 -- Assumes nothing.
-use mathlib.Core.List.{List}
-use Prim.Native.Nat.{ℕ}
-use Rattle.table.specs.Bytes.{Bytes}
-use Rattle.promise.specs.Demands.{Demands}
+use Rattle.promise.specs.Demands.{Promised}
 use Rattle.promise.proofs.RefusalLaws.{exact-refusals}
 use Rattle.promise.proofs.BenchLaws.{ticks-rightly}
 use Rattle.promise.proofs.NumberLaws.{numbers}
@@ -11,7 +8,7 @@ use Rattle.promise.proofs.PassedLaws.{passed}
 use Rattle.promise.proofs.OverloadedLaws.{overloaded-shown}
 use Rattle.promise.proofs.JudgedLaws.{judged-rightly}
 
-pub kept : (s : List ℕ) → Bytes s → Demands s
+pub kept : Promised
 kept s bytes =
     record {
       refusals = exact-refusals s bytes;

@@ -1,4 +1,5 @@
--- The three demands, in the user's order, of any bytes: each statement is a record of its own file.
+-- The three demands, in the user's order, and the promise that they are kept of any bytes. What each part says is in
+-- Refusals, Numbers, Bench and Promises.
 -- Assumes nothing.
 use mathlib.Core.Path.{_≡_}
 use mathlib.Core.List.{List}
@@ -6,6 +7,7 @@ use Prim.Native.Nat.{ℕ}
 use lib.IntN.{ℤ}
 use Rattle.model.specs.Verdict.{overloaded, fits}
 use Rattle.model.specs.Answer.{answered}
+use Rattle.table.specs.Bytes.{Bytes}
 use Rattle.table.specs.WellFormed.{WellFormed}
 use Rattle.bench.specs.declared.state.Bench.{Bench}
 use Rattle.desk.specs.Questions.{verdict-asked}
@@ -25,3 +27,7 @@ pub record Demands (s : List ℕ) : Type 0 where
   pub passed : {window t : ℕ} {m : ℤ} → verdict-asked s ≡ answered (fits window m t) → Passed s
   pub overloaded : {t : ℕ} {m : ℤ} {starts : List ℕ} → verdict-asked s ≡ answered (overloaded t m starts) → Overloaded s
   pub judged : WellFormed s → Judged-rightly s
+
+-- the promise: `Bytes` is all that is assumed, that each number is below 256
+abbrev pub Promised : Type 0
+Promised = (s : List ℕ) → Bytes s → Demands s

@@ -1,11 +1,11 @@
-pub mod Tables
-pub mod Asked
-pub mod Named
 pub mod Refusals
-pub mod OneAnswer
+pub mod Bench
 pub mod Numbers
 pub mod Promises
 pub mod Demands
-pub mod Cases
+pub mod OneAnswer
 pub mod Callers
-pub mod Bench
+pub mod Tables
+pub mod Asked
+pub mod Named
+pub mod Cases

@@ -37,8 +37,8 @@ pub record Allowed {Args Result Exit : Type 0} (contract : Args → Result → E
   pub exit : Exit
   pub is : contract a answer exit
 
--- a function that requires `asked` of its arguments and promises `contract`: its answer is `meaning`. So two answers that
--- the contract allows are equal, and so are the lent buffers as two returns leave them
+-- of a function that requires `asked` and promises `contract`: its answer is `meaning`, so two answers that it allows
+-- are equal, and so are the lent buffers as two returns leave them
 pub record One-answer {Args Result Exit Buffers : Type 0} (asked : Args → Type 0)
     (contract : Args → Result → Exit → Type 0) (meaning : Args → Result) (buffers : Exit → Buffers) : Type 0 where
   -- "Any bytes may be handed in": nothing is required of a caller

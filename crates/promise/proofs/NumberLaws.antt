@@ -1,16 +1,22 @@
 -- The numbers are those of the definitions: what each question is answered where nothing is refused.
 -- Assumes nothing.
-use mathlib.Core.Path.{_≡_, subst, _∙_}
+use mathlib.Core.Path.{_≡_, ap, subst, _∙_}
 use mathlib.Core.List.{List}
 use Prim.Native.Nat.{ℕ, _≤_, _<_}
+use native.Mathlib.Omega.{arith}
 use borrow.Author.Tests.{le-ltb, lt-leb}
+use Rattle.laws.specs.Search.{Found, at, nowhere}
+use Rattle.laws.proofs.SearchLaws.{Right, least-right}
 use Rattle.model.specs.Task.{Task}
 use Rattle.model.specs.Demand.{demand, work, margin}
-use Rattle.model.specs.Verdict.{horizon, closing-window}
+use Rattle.model.specs.Verdict.{horizon, closes, closing-window}
 use Rattle.model.specs.Answer.{answered}
+use Rattle.model.proofs.AllLaws.{margin-zero}
+use Rattle.model.proofs.ClosingLaws.{does-close, stays-open}
 use Rattle.table.specs.Bytes.{Bytes}
 use Rattle.table.specs.TableOf.{table-of}
 use Rattle.table.specs.WellFormed.{WellFormed}
+use Rattle.table.proofs.TaskLaws.{well-proper}
 use Rattle.requests.specs.Entry.{list-of}
 use Rattle.requests.specs.Accepted.{Accepted}
 use Rattle.desk.specs.Questions.{by-time, by-task, one-task, counts, replays, demand-asked, work-asked, margin-asked, window-asked, list-asked}
@@ -18,7 +24,7 @@ use Rattle.desk.specs.ResponseMeaning.{Told}
 use Rattle.desk.proofs.TableLaws.{table-asked, well-judged}
 use Rattle.desk.proofs.ListExact.{good-answered, replay-means}
 use Rattle.desk.proofs.ResponseExact.{frame-answered, response-told}
-use Rattle.promise.specs.Numbers.{Replayed-rightly, Numbers}
+use Rattle.promise.specs.Numbers.{Window-says, Replayed-rightly, Numbers}
 use Rattle.promise.proofs.BenchLaws.{loaded-rightly}
 use Rattle.promise.proofs.PassedLaws.{accepted-replayed}
 
@@ -38,6 +44,23 @@ module _ (s : List ℕ) (well : WellFormed s) where
   unfolding window-asked
   window-answered = table-asked s (λ table. answered (closing-window horizon table)) well
 
+  window-told : (w : Found) → window-asked s ≡ answered w → Window-says (table-of s) w
+  unfolding closing-window
+  window-told w asked =
+      let table = table-of s in
+      let is : closing-window horizon table ≡ w = cc (window-answered) in
+      subst (Window-says table) is (found-says (closing-window horizon table) (least-right (closes table) horizon 1))
+    where
+      found-says : (w : Found) → Right (closes (table-of s)) horizon 1 w → Window-says (table-of s) w
+      found-says (at w) least =
+          record {
+            from = least .low;
+            within = omega (arith, least .high);
+            closes = does-close (table-of s) w (least .passes);
+            least = λ v low less. stays-open (table-of s) v (least .first v low less);
+          }
+      found-says nowhere none = λ w low high. stays-open (table-of s) w (none w low (omega arith))
+
   replayed : Bytes s → (list : List ℕ) → Accepted (table-of s) list → Replayed-rightly s list
   replayed bytes list accepted =
       let r = replays (table-of s) (list-of list) in
@@ -51,7 +74,9 @@ module _ (s : List ℕ) (well : WellFormed s) where
         demands = one-answered demand;
         works = one-answered work;
         margins = margin-answered;
+        margin-at-0 = margin-answered 0 (omega arith) ∙ ap answered (margin-zero (well-proper bytes well));
         window = window-answered;
+        window-says = window-told;
         verdict-is = well-judged s well;
         responses = λ k i has. frame-answered s k i (record { table-good = well; has = has });
         responses-say = λ k i r is. subst (Told s k i) is (response-told s k i) .says;

@@ -30,7 +30,7 @@ use Rattle.desk.specs.Refusals.{Told}
 use Rattle.desk.proofs.ListExact.{list-told}
 use Rattle.desk.proofs.WritingExact.{over-judged}
 use Rattle.desk.proofs.WritingLeft.{wrote-leaves}
-use Rattle.promise.specs.Promises as Promise
+use Rattle.promise.specs.Promises.{No-schedule, Overload-shown}
 use Rattle.promise.specs.Callers.{Slice, Judges, Writes, Replays, Callers, Relied-on}
 use Rattle.promise.proofs.JudgedLaws.{judged-means}
 use Rattle.promise.proofs.RefusalLaws.{exact-refusals}
@@ -79,10 +79,11 @@ module _ (s : Slice) where
   module _ (bytes : Bytes (now s)) where
     -- the list that was written is that of the overload
     shown : (buffer : Slice) (place n : ℕ) (after : List ℕ) → Writes s buffer place (written.Bytes n) after
-        → (over : Promise.Overloaded (now s)) × (take n (drop place after) ≡ over .list)
+        → (t : ℕ) × (over : Overload-shown (now s) t) × (take n (drop place after) ≡ over .list)
     shown buffer place n after (κs, x, told, is) =
         let at-t = wrote-leaves (now s) (now buffer) place bytes told .writes .overloaded in
         let over = overloaded-shown (now s) bytes (over-judged (now s) bytes at-t) in (
+          _,
           over,
           subst (λ (l : List ℕ). take n (drop place l) ≡ over .list) is
               (over .read-back (now buffer) place n (now (x .1 .0)) told),
@@ -107,7 +108,7 @@ module _ (s : Slice) where
         → (list : Slice) → now list ≡ take n (drop place after)
         → (e : Ending) → Replays s list e → (tick : ℕ) → e ≡ ending.Is (AllMet tick) → ⊥
     never-met buffer place n after writes list read e replay tick is =
-        let (over, is-list) = shown buffer place n after writes in
+        let (t, over, is-list) = shown buffer place n after writes in
         let asked = replays-asked list replay is in
         let same = read ∙ is-list in
         let missed = over .replays (subst (Accepted (table-of (now s))) same (replayed-good list asked)) in
@@ -123,9 +124,9 @@ module _ (s : Slice) where
           refused = λ r judges y is.
               exact-refusals (now s) bytes .verdict .only (y .number) (y .index) (judges-asked r judges is);
           wrote = λ buffer place n after writes.
-              let (over, is) = shown buffer place n after writes in (
+              let (t, over, is) = shown buffer place n after writes in (
                 subst (λ (l : List ℕ). Legal (table-of (now s)) (list-of l)) (sym is) (over .legal),
-                subst (λ (l : List ℕ). Promise.No-schedule (table-of (now s)) (list-of l)) (sym is) (over .no-schedule),
+                subst (λ (l : List ℕ). No-schedule (table-of (now s)) (list-of l)) (sym is) (over .no-schedule),
               );
           left-alone = λ buffer place y after (κs, x, told, is).
               sym is ∙ wrote-leaves (now s) (now buffer) place bytes told .same;

@@ -1,5 +1,5 @@
 -- Every case of specs/Cases.antt is refused as it says: one computed test of the whole table. So by the exact refusals
--- its refusal is named for it.
+-- its refusal is the one it is given.
 -- Assumes nothing.
 use mathlib.Core.Bool.{Bool, false, _&&_}
 use mathlib.Core.Path.{_≡_}
@@ -29,7 +29,7 @@ use Rattle.desk.specs.Overload.{overload-asked}
 use Rattle.desk.specs.Response.{response-asked}
 use Rattle.promise.specs.Tables.{A, B, twenty}
 use Rattle.promise.specs.Asked.{Question, demand-of, verdict-on, replay-with, overload-into, response-to, first-values}
-use Rattle.promise.specs.Cases.{Names, Case, Is-named, times, tasks, cases}
+use Rattle.promise.specs.Cases.{Given, Case, Is-given, times, tasks, cases}
 use Rattle.promise.proofs.SameLaws.{same-answer, same-answer-is}
 use Rattle.promise.proofs.NamedLaws.{is-byte, are-bytes}
 use Rattle.promise.proofs.RefusalLaws.{exact-refusals}
@@ -52,27 +52,27 @@ asked s (response-to k i) number index = gets number index (response-asked s k i
 asked s (first-values many k i) number index = false
 
 module _ (s : List ℕ) (bytes : Bytes s) (n i : ℕ) where
-  asked-names : (q : Question) → T (asked s q n i) → Names s q n i
+  asked-given : (q : Question) → T (asked s q n i) → Given s q n i
   unfolding asked
-  asked-names (demand-of k t) h = exact-refusals s bytes .demand k t .only n i (gets-is n i (demand-asked s k t) h)
-  asked-names verdict-on h = exact-refusals s bytes .verdict .only n i (gets-is n i (verdict-asked s) h)
-  asked-names (replay-with list) h =
+  asked-given (demand-of k t) h = exact-refusals s bytes .demand k t .only n i (gets-is n i (demand-asked s k t) h)
+  asked-given verdict-on h = exact-refusals s bytes .verdict .only n i (gets-is n i (verdict-asked s) h)
+  asked-given (replay-with list) h =
       exact-refusals s bytes .replay list .only n i (gets-is n i (replay-asked s list) h)
-  asked-names (overload-into buffer place) h =
+  asked-given (overload-into buffer place) h =
       exact-refusals s bytes .overload buffer place .only n i (gets-is n i (overload-asked s buffer place) h)
-  asked-names (response-to k j) h =
+  asked-given (response-to k j) h =
       exact-refusals s bytes .response k j .only n i (gets-is n i (response-asked s k j) h)
-  asked-names (first-values many k j) h = absurd h
+  asked-given (first-values many k j) h = absurd h
 
 right : Case → Bool
 right c = every is-byte (c .bytes) && asked (c .bytes) (c .question) (c .number) (c .index)
 
-right-names : (c : Case) → T (right c) → Is-named c
+right-given : (c : Case) → T (right c) → Is-given c
 unfolding right
-right-names c h =
+right-given c h =
     let all = every is-byte (c .bytes) in
     let it = asked (c .bytes) (c .question) (c .number) (c .index) in
-    asked-names (c .bytes) (are-bytes (c .bytes) (both-left all it h)) (c .number) (c .index) (c .question)
+    asked-given (c .bytes) (are-bytes (c .bytes) (both-left all it h)) (c .number) (c .index) (c .question)
     (both-right all it h)
 
 all-right : T (every right cases)
@@ -84,5 +84,5 @@ unfolding cases right asked gets is-byte every same-answer A B twenty times task
     placed overload-list weave next-at taken-by foremost requests-by up-to-last bytes-to
 all-right = tt
 
-pub cases-named : (i : ℕ) → i < length cases → (other : Case) → Is-named (getD cases i other)
-cases-named i below other = right-names (getD cases i other) (every-at right cases other all-right i below)
+pub cases-given : (i : ℕ) → i < length cases → (other : Case) → Is-given (getD cases i other)
+cases-given i below other = right-given (getD cases i other) (every-at right cases other all-right i below)

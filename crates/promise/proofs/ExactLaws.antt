@@ -1,5 +1,5 @@
 -- How a question is shown to be refused exactly: by what its answer tells, whichever answer it is. And what follows: of
--- a question that is answered no refusal is named, and of any question one at most.
+-- a question that is answered no refusal is given, and of any question one at most.
 -- Assumes nothing.
 use Prim.Native.Nat.{ℕ}
 use mathlib.Core.Path.{_≡_, refl, subst}
@@ -7,7 +7,7 @@ use native.Mathlib.Omega.{arith}
 use Rattle.model.specs.Answer.{Answer, answered, refused}
 use Rattle.promise.specs.Refusals.{Answered, Exactly}
 
--- a refusal tells that it is one of those that are named
+-- a refusal tells that it is one of those that are given
 pub exactly : {A : Type 0} (Told : Answer A → Type 0) {said : Answer A}
     → ((number index : ℕ) → Told (refused number index) → said ≡ refused number index) → Told said
     → Exactly (λ number index. Told (refused number index)) said
@@ -18,19 +18,19 @@ exactly Told {said} refuses told =
     which (answered value) is none = record { value = value; is = is }
     which (refused number index) is none = absurd (none number index (subst Told is told))
 
--- so where it is answered no refusal is named
-pub answered-none : {A : Type 0} {Names : ℕ → ℕ → Type 0} {said : Answer A} → Exactly Names said
-    → {value : A} → said ≡ answered value → (number index : ℕ) → Names number index → ⊥
-answered-none exact is number index named =
-    let apart : _≡_ {A = ℕ} 0 1 = cc (exact .refuses number index named) in absurd (omega arith)
+-- so where it is answered no refusal is given
+pub answered-none : {A : Type 0} {Given : ℕ → ℕ → Type 0} {said : Answer A} → Exactly Given said
+    → {value : A} → said ≡ answered value → (number index : ℕ) → Given number index → ⊥
+answered-none exact is number index given =
+    let apart : _≡_ {A = ℕ} 0 1 = cc (exact .refuses number index given) in absurd (omega arith)
 
--- and of two that are named both are the one that is given
-pub one-refusal : {A : Type 0} {Names : ℕ → ℕ → Type 0} {said : Answer A} → Exactly Names said
-    → (n i m j : ℕ) → Names n i → Names m j → (n ≡ m) × (i ≡ j)
+-- and of two that are given both are the one it gets
+pub one-refusal : {A : Type 0} {Given : ℕ → ℕ → Type 0} {said : Answer A} → Exactly Given said
+    → (n i m j : ℕ) → Given n i → Given m j → (n ≡ m) × (i ≡ j)
 one-refusal exact n i m j one other =
     let first = exact .refuses n i one in let second = exact .refuses m j other in (cc, cc)
 
 -- where nothing is to be told of an answer
-abbrev pub Named : {A : Type 0} → (ℕ → ℕ → Type 0) → Answer A → Type 0
-Named Names (answered value) = Unit {0}
-Named Names (refused number index) = Names number index
+abbrev pub Given-only : {A : Type 0} → (ℕ → ℕ → Type 0) → Answer A → Type 0
+Given-only Given (answered value) = Unit {0}
+Given-only Given (refused number index) = Given number index

@@ -16,7 +16,7 @@ use Rattle.model.proofs.EachTick.{demands-each}
 use Rattle.table.specs.TableOf.{table-of}
 use Rattle.desk.specs.Questions.{verdict-asked}
 use Rattle.promise.specs.Tables.{U-over}
-use Rattle.promise.specs.Promises.{Overloaded}
+use Rattle.promise.specs.Promises.{Overload-shown}
 use Rattle.promise.proofs.OverloadedLaws.{overloaded-shown}
 use Rattle.promise.proofs.LoneExample.{lone-bytes, lone-good, lone-judged, U-over-reads}
 
@@ -46,5 +46,5 @@ over-means =
 pub over-judged : verdict-asked U-over ≡ answered (overloaded 65536 (negsuc 1) (replicate 16 0))
 over-judged = lone-judged U-over-reads (overloaded 65536 (negsuc 1) (replicate 16 0)) over-means
 
-pub over-promised : Overloaded U-over
+pub over-promised : Overload-shown U-over 65536
 over-promised = overloaded-shown U-over (lone-bytes U-over-reads) over-judged

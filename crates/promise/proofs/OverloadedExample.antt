@@ -18,13 +18,13 @@ use Rattle.requests.specs.Entry.{entry-of, list-of}
 use Rattle.requests.specs.Accepted.{Accepted}
 use Rattle.promise.specs.Tables.{A, B, B-list}
 use Rattle.promise.specs.Named.{named}
-use Rattle.promise.specs.Promises.{Replays-missed, No-schedule, Overloaded}
+use Rattle.promise.specs.Promises.{Replays-missed, No-schedule, Overload-shown}
 use Rattle.promise.proofs.NamedLaws.{named-right, no-row, B-bytes, K5}
 use Rattle.promise.proofs.ListExample.{B-good}
 use Rattle.promise.proofs.WritingExample.{K4-verdict, row-wrote}
 use Rattle.promise.proofs.OverloadedLaws.{overloaded-shown}
 
-pub B-promised : Overloaded B
+pub B-promised : Overload-shown B 2
 B-promised = overloaded-shown B B-bytes K4-verdict
 
 -- K4, row 11: read back from a buffer of sixteen bytes

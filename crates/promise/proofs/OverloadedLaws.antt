@@ -31,7 +31,7 @@ use Rattle.desk.proofs.ListExact.{replay-means}
 use Rattle.desk.proofs.TableLaws.{well-judged}
 use Rattle.desk.proofs.WritingExact.{over-at, over-judged, over-shows, over-written}
 use Rattle.desk.proofs.WritingLeft.{wrote-leaves}
-use Rattle.promise.specs.Promises.{Replays-missed, Overloaded}
+use Rattle.promise.specs.Promises.{Replays-missed, Overload-shown}
 use Rattle.promise.proofs.JudgedLaws.{judged-well, judged-means}
 use Rattle.promise.proofs.PassedLaws.{accepted-replayed}
 
@@ -73,12 +73,13 @@ module _ (s : List ℕ) (bytes : Table.Bytes s) {t : ℕ} {m : ℤ} {starts : Li
       which (all-met tick) is =
           absurd (too-much-misses jobs 0 t too-much tick (replay-means s bytes list (all-met tick) is))
 
-  pub overloaded-shown : Overloaded s
+  pub overloaded-shown : Overload-shown s t
   overloaded-shown =
       record {
         list = list;
         written = λ buffer place room. over-written s buffer place bytes t at-t room;
         read-back = read-back;
+        woven = shows .woven;
         legal = shows .legal;
         no-schedule = no-schedule jobs 0 t too-much;
         lawful = shows .lawful;

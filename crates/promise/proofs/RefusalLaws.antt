@@ -9,7 +9,7 @@ use Rattle.model.specs.Request.{Requests}
 use Rattle.table.specs.Bytes.{Bytes}
 use Rattle.table.proofs.Exact.{read-good, good-read, read-refused, refused-read}
 use Rattle.desk.specs.Questions.{on-list, counts, loads, replays, demand-asked, work-asked, margin-asked, window-asked, verdict-asked, list-asked, load-asked, replay-asked}
-use Rattle.desk.specs.Refusals as List-of
+use Rattle.desk.specs.Refusals as Lists
 use Rattle.desk.specs.ResponseMeaning as Response
 use Rattle.desk.specs.OverloadMeaning as Writing
 use Rattle.desk.proofs.ListExact.{bad-refused, list-told}
@@ -31,8 +31,8 @@ module _ (s : List ℕ) where
       }
 
   list-exact : {A : Type 0} (ask : Table → Requests → A) (list : List ℕ)
-      → Exactly (List-of.Refused-with s list) (on-list s list ask)
-  list-exact ask list = exactly (List-of.Told s list) (bad-refused ask s list) (list-told ask s list)
+      → Exactly (Lists.Refused-with s list) (on-list s list ask)
+  list-exact ask list = exactly (Lists.Told s list) (bad-refused ask s list) (list-told ask s list)
 
   pub exact-refusals : Bytes s → Exact-refusals s
   unfolding demand-asked work-asked margin-asked window-asked verdict-asked list-asked load-asked replay-asked

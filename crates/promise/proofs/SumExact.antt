@@ -16,7 +16,7 @@ use Rattle.table.specs.Refusals.{Refused-with}
 use Rattle.desk.specs.Questions.{on-table, by-time, by-task, one-task}
 use Rattle.desk.proofs.TableLaws.{table-refused, table-asked, table-told, test-told}
 use Rattle.promise.specs.Refusals.{Time-refused, Task-refused, table-bad, refuses-9, refuses-7, Exactly}
-use Rattle.promise.proofs.ExactLaws.{exactly, Named}
+use Rattle.promise.proofs.ExactLaws.{exactly, Given-only}
 
 module _ (s : List ℕ) where
   -- ---- a question that every table is answered
@@ -31,7 +31,7 @@ module _ (s : List ℕ) where
         said table = answered (ask table)
 
         Told : Answer A → Type 0
-        Told = Named (Refused-with s)
+        Told = Given-only (Refused-with s)
 
   -- ---- at a time t
 
@@ -45,7 +45,7 @@ module _ (s : List ℕ) where
     time-exact = exactly Told time-refuses (table-told s (by-time t ask) Told (λ number index bad. table-bad bad) told)
       where
         Told : Answer A → Type 0
-        Told = Named (Time-refused s t)
+        Told = Given-only (Time-refused s t)
 
         told : WellFormed s → Told (by-time t ask (table-of s))
         told well =
@@ -67,7 +67,7 @@ module _ (s : List ℕ) where
         (table-told s (by-task sum k t) Told (λ number index bad. table-bad bad) told)
       where
         Told : Answer ℕ → Type 0
-        Told = Named (Task-refused s k t)
+        Told = Given-only (Task-refused s k t)
 
         told : WellFormed s → Told (by-task sum k t (table-of s))
         told well =

@@ -29,7 +29,7 @@ pub record Ticks-rightly (b : Bench) : Type 0 where
 pub record Loaded-rightly (s list : List ℕ) : Type 0 where
   pub bench : Bench
   pub is : load-asked s list ≡ answered bench
-  -- after n ticks, while it runs, it holds what the machine has left
+  -- after n ticks, of the 131,071 that a run may have, while it runs it holds what the machine has left
   pub holds : (n : ℕ) → n ≤ suc last-tick → run-of n bench .outcome ≡ Running
       → Holds (jobs-of (table-of s) (list-of list)) n (run-of n bench)
   -- "All runs end by tick 131,070", and say of the machine what the document says

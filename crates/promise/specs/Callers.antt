@@ -27,7 +27,7 @@ use Rattle.desk.specs.declared.Ending.the-variants as ending
 use Rattle.desk.proofs.judge.Reads as judge
 use Rattle.desk.proofs.write_overload.Reads as write_overload
 use Rattle.desk.proofs.replay.Reads as replay
-use Rattle.promise.specs.Promises.{Passed, No-schedule, Overloaded}
+use Rattle.promise.specs.Promises.{Passed, No-schedule, Overload-shown}
 
 -- a `&[u8]` or `&mut [u8]`; its bytes are `now s`
 abbrev pub Slice : Type 0
@@ -50,7 +50,7 @@ pub record Callers (s : Slice) : Type 0 where
   pub passed : (r : Judged) → Judges s r → (window t : ℕ) (m : ℤ)
       → r .judgement ≡ judgement.Is (verdict.Fits window m t) → Passed (now s)
   pub overloaded : (r : Judged) → Judges s r → (t : ℕ) (m : ℤ)
-      → r .judgement ≡ judgement.Is (verdict.Overloaded t m) → Overloaded (now s)
+      → r .judgement ≡ judgement.Is (verdict.Overloaded t m) → Overload-shown (now s) t
   pub undecided : (r : Judged) → Judges s r
       → r .judgement ≡ judgement.Is verdict.Undecided → Undecided horizon (table-of (now s))
   pub refused : (r : Judged) → Judges s r → (y : Refusal)

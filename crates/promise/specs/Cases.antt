@@ -1,24 +1,24 @@
--- For each refusal of document 01, "When the desk says no", questions that get it, in each way that the document names;
--- and what the exact refusals name for a question.
+-- For each refusal of document 01, "When the desk says no", questions that get it, in each way that the document names.
+-- 13 is not among them, for no verdict of a table that fits is computed here: RefusalExamples has it.
 -- Assumes nothing.
 use mathlib.Core.List.{List, [], _∷_, _++_}
 use Prim.Native.Nat.{ℕ, zero, suc}
 use Rattle.table.specs.Refusals as Table
-use Rattle.desk.specs.Refusals as List-of
+use Rattle.desk.specs.Refusals as Lists
 use Rattle.desk.specs.ResponseMeaning as Response
 use Rattle.desk.specs.OverloadMeaning as Writing
 use Rattle.promise.specs.Tables.{rec, sporadic, A, B, req, twenty}
 use Rattle.promise.specs.Asked.{Question, demand-of, verdict-on, replay-with, overload-into, response-to, first-values}
 use Rattle.promise.specs.Refusals.{Task-refused}
 
--- of the bytes s; the values of a recurrence are never refused
-abbrev pub Names : List ℕ → Question → ℕ → ℕ → Type 0
-Names s (demand-of k t) = Task-refused s k t
-Names s verdict-on = Table.Refused-with s
-Names s (replay-with list) = List-of.Refused-with s list
-Names s (overload-into buffer place) = Writing.Refused-with s buffer place
-Names s (response-to k i) = Response.Refused-with s k i
-Names s (first-values many k i) = λ number index. ⊥
+-- when a question on the bytes s is given a refusal; the values of a recurrence are never refused
+abbrev pub Given : List ℕ → Question → ℕ → ℕ → Type 0
+Given s (demand-of k t) = Task-refused s k t
+Given s verdict-on = Table.Refused-with s
+Given s (replay-with list) = Lists.Refused-with s list
+Given s (overload-into buffer place) = Writing.Refused-with s buffer place
+Given s (response-to k i) = Response.Refused-with s k i
+Given s (first-values many k i) = λ number index. ⊥
 
 -- the question, asked of the bytes, is refused with this number and this record
 pub record Case : Type 0 where
@@ -27,9 +27,9 @@ pub record Case : Type 0 where
   pub number : ℕ
   pub index : ℕ
 
--- and its refusal is the one that is named for it
-abbrev pub Is-named : Case → Type 0
-Is-named c = Names (c .bytes) (c .question) (c .number) (c .index)
+-- and its refusal is the one that the document gives it
+abbrev pub Is-given : Case → Type 0
+Is-given c = Given (c .bytes) (c .question) (c .number) (c .index)
 
 abbrev pub refuses : List ℕ → Question → ℕ → ℕ → Case
 refuses s question number index = record { bytes = s; question = question; number = number; index = index }

@@ -14,7 +14,7 @@ use Rattle.desk.specs.Questions.{verdict-asked}
 use Rattle.promise.specs.Refusals.{Exact-refusals}
 use Rattle.promise.specs.Bench.{Ticks-rightly}
 use Rattle.promise.specs.Numbers.{Numbers}
-use Rattle.promise.specs.Promises.{Passed, Overloaded, Judged-rightly}
+use Rattle.promise.specs.Promises.{Passed, Overload-shown, Judged-rightly}
 
 pub record Demands (s : List ℕ) : Type 0 where
   -- 1. "Any bytes may be handed in .. Each gets an answer or one numbered refusal, exactly when the list of refusals
@@ -25,7 +25,8 @@ pub record Demands (s : List ℕ) : Type 0 where
   pub ticks : (b : Bench) → Ticks-rightly b
   -- 3. "Passed means .. Overloaded means .. Undecided only when .."
   pub passed : {window t : ℕ} {m : ℤ} → verdict-asked s ≡ answered (fits window m t) → Passed s
-  pub overloaded : {t : ℕ} {m : ℤ} {starts : List ℕ} → verdict-asked s ≡ answered (overloaded t m starts) → Overloaded s
+  pub overloaded : {t : ℕ} {m : ℤ} {starts : List ℕ} → verdict-asked s ≡ answered (overloaded t m starts)
+      → Overload-shown s t
   pub judged : WellFormed s → Judged-rightly s
 
 -- the promise: `Bytes` is all that is assumed, that each number is below 256

@@ -16,7 +16,7 @@ use Rattle.model.specs.Jobs.{jobs-of}
 use Rattle.model.specs.Machine.{sooner}
 use Rattle.model.specs.Replay.{Replayed, Says}
 use Rattle.model.specs.Response.{Response, higher-share, response}
-use Rattle.model.specs.ResponseMeaning as Response
+use Rattle.model.specs.ResponseMeaning as Recurrence
 use Rattle.model.specs.Answer.{answered}
 use Rattle.table.specs.Bytes.{records}
 use Rattle.table.specs.TableOf.{table-of}
@@ -62,7 +62,7 @@ pub record Numbers (s : List ℕ) : Type 0 where
       → response-asked s k i ≡ answered (response (table-of s) k i)
   -- which says of the recurrence what the document says: a value that repeats, or passes D, and its index
   pub responses-say : (k i : ℕ) (r : Response) → response-asked s k i ≡ answered r
-      → Response.Says (higher-share (table-of s) k) (table-of s .task k .E i) (table-of s .task k .D i) r
+      → Recurrence.Says (higher-share (table-of s) k) (table-of s .task k .E i) (table-of s .task k .D i) r
   -- of bytes that are a list of the table
   pub counts : (list : List ℕ) → Accepted (table-of s) list → list-asked s list ≡ answered (records list)
   pub loads : (list : List ℕ) → Accepted (table-of s) list → Loaded-rightly s list

@@ -14,6 +14,8 @@ use Rattle.model.specs.Machine.{sooner, left-at}
 use Rattle.model.specs.Replay.{missed, all-met}
 use Rattle.model.specs.Schedule.{Schedule, units, Unfinished}
 use Rattle.model.specs.Service.{machine-serves}
+use Rattle.model.specs.Weave.{Woven}
+use Rattle.model.specs.Overload.{overload-runs}
 use Rattle.model.specs.Answer.{answered}
 use Rattle.table.specs.TableOf.{table-of}
 use Rattle.requests.specs.Entry.{list-of}
@@ -46,7 +48,6 @@ pub record Replays-met (s list : List ℕ) : Type 0 where
 
 pub record Passed (s : List ℕ) : Type 0 where
   pub finishes : (list : Requests) → Legal (table-of s) list → Finishes-each (table-of s) list
-  -- as a schedule, it gives each request its E ticks from its arrival to its deadline
   pub serves : (list : Requests) → Legal (table-of s) list → Serves-each (table-of s) list
   -- the bytes of a list that the bench accepts
   pub replays : (list : List ℕ) → Accepted (table-of s) list → Replays-met s list
@@ -64,13 +65,17 @@ pub record Replays-missed (s list : List ℕ) : Type 0 where
 abbrev pub No-schedule : Table → Requests → Type 0
 No-schedule table list = (schedule : Schedule) → Unfinished (jobs-of table list) schedule
 
-pub record Overloaded (s : List ℕ) : Type 0 where
+-- of bytes that are overloaded at t
+pub record Overload-shown (s : List ℕ) (t : ℕ) : Type 0 where
   pub list : List ℕ
   -- these bytes are what the writer writes wherever there is room, and what a caller reads back where it has written
   pub written : (buffer : List ℕ) (place : ℕ) → place + length list ≤ length buffer
       → overload-asked s buffer place ≡ answered list
   pub read-back : (buffer : List ℕ) (place n : ℕ) (after : List ℕ)
       → Wrote buffer place (overload-asked s buffer place) (Bytes n) after → take n (drop place after) ≡ list
+  -- "For each task, from its start frame, the earliest arrivals, up to and including the last request whose deadline is
+  -- at most t .. Sorted by arrival, then task number"
+  pub woven : Woven (table-of s) (overload-runs (table-of s) t) (list-of list)
   pub legal : Legal (table-of s) (list-of list)
   pub no-schedule : No-schedule (table-of s) (list-of list)
   -- the bench's rules 10 and 11, but for its limit of 128 records

@@ -19,7 +19,7 @@ use Rattle.overload.specs.declared.write.Written.{Written}
 use Rattle.desk.specs.Questions.{demand-asked, work-asked, margin-asked, window-asked, verdict-asked, list-asked, load-asked, replay-asked}
 use Rattle.desk.specs.Overload.{overload-asked}
 use Rattle.desk.specs.Response.{response-asked}
-use Rattle.desk.specs.Refusals as List-of
+use Rattle.desk.specs.Refusals as Lists
 use Rattle.desk.specs.ResponseMeaning as Response
 use Rattle.desk.specs.OverloadMeaning as Writing
 
@@ -43,11 +43,12 @@ pub record Answered {A : Type 0} (said : Answer A) : Type 0 where
   pub value : A
   pub is : said ≡ answered value
 
--- refused where the document names a refusal, with that number and index; only where; and answered where it names none
-pub record Exactly {A : Type 0} (Names : ℕ → ℕ → Type 0) (said : Answer A) : Type 0 where
-  pub refuses : (number index : ℕ) → Names number index → said ≡ refused number index
-  pub only : (number index : ℕ) → said ≡ refused number index → Names number index
-  pub answers : ((number index : ℕ) → Names number index → ⊥) → Answered said
+-- "Given exactly when": refused where the document gives a refusal, with that number and index, only there, and
+-- answered where it gives none
+pub record Exactly {A : Type 0} (Given : ℕ → ℕ → Type 0) (said : Answer A) : Type 0 where
+  pub refuses : (number index : ℕ) → Given number index → said ≡ refused number index
+  pub only : (number index : ℕ) → said ≡ refused number index → Given number index
+  pub answers : ((number index : ℕ) → Given number index → ⊥) → Answered said
 
 -- the bytes s as a table: 1 to 6
 pub record Table-exact (s : List ℕ) : Type 0 where
@@ -70,9 +71,9 @@ pub record Exact-refusals (s : List ℕ) : Type 0 where
   pub overload : (buffer : List ℕ) (place : ℕ)
       → Exactly (Writing.Refused-with s buffer place) (overload-asked s buffer place)
   -- ".. or, for a list, length, then records in order, in each record 10 before 11"
-  pub check : (list : List ℕ) → Exactly (List-of.Refused-with s list) (list-asked s list)
-  pub load : (list : List ℕ) → Exactly (List-of.Refused-with s list) (load-asked s list)
-  pub replay : (list : List ℕ) → Exactly (List-of.Refused-with s list) (replay-asked s list)
+  pub check : (list : List ℕ) → Exactly (Lists.Refused-with s list) (list-asked s list)
+  pub load : (list : List ℕ) → Exactly (Lists.Refused-with s list) (load-asked s list)
+  pub replay : (list : List ℕ) → Exactly (Lists.Refused-with s list) (replay-asked s list)
   -- "no lent byte changes": what a caller finds in the buffer, after a refusal too
   pub lent : (buffer : List ℕ) (place : ℕ) {r : Written} {after : List ℕ}
       → Wrote buffer place (overload-asked s buffer place) r after → Writing.Leaves-behind s buffer place r after

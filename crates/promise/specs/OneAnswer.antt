@@ -53,41 +53,45 @@ pub record One-answer {Args Result Exit Buffers : Type 0} (asked : Args → Type
 abbrev pub no-buffer : {Exit : Type 0} → Exit → Unit {0}
 no-buffer x = tt
 
--- the writer's buffer, its second argument
-abbrev pub second : {A B : Type 0} → RefT A × (RefT (List ℕ) × B) → List ℕ
-second x = now (x .1 .0)
+-- the bytes of the first argument and of the second, which for the writer is its buffer; an argument that is a number
+-- is `a .1 .0`, the second, or `a .1 .1 .0`, the third
+abbrev pub first : {A : Type 0} → RefT (List ℕ) × A → List ℕ
+first a = now (a .0)
+
+abbrev pub second : {A B : Type 0} → A × (RefT (List ℕ) × B) → List ℕ
+second a = now (a .1 .0)
 
 -- every public function: of the desk, and of the bench that `load` hands out
 pub record One-answer-each : Type 0 where
   pub read_table : (κs : Lfts 1) →
-      One-answer (read_table.Asked κs) (read_table.Learnt κs) (λ a. reading-of (now (a .0))) no-buffer
+      One-answer (read_table.Asked κs) (read_table.Learnt κs) (λ a. reading-of (first a)) no-buffer
   pub demand : (κs : Lfts 1) →
       One-answer (demand.Asked κs) (demand.Learnt κs)
-      (λ a. amount-of (demand-asked (now (a .0)) (a .1 .0) (a .1 .1 .0))) no-buffer
+      (λ a. amount-of (demand-asked (first a) (a .1 .0) (a .1 .1 .0))) no-buffer
   pub work : (κs : Lfts 1) →
       One-answer (work.Asked κs) (work.Learnt κs)
-      (λ a. amount-of (work-asked (now (a .0)) (a .1 .0) (a .1 .1 .0))) no-buffer
+      (λ a. amount-of (work-asked (first a) (a .1 .0) (a .1 .1 .0))) no-buffer
   pub margin : (κs : Lfts 1) →
-      One-answer (margin.Asked κs) (margin.Learnt κs) (λ a. spare-of (margin-asked (now (a .0)) (a .1 .0))) no-buffer
+      One-answer (margin.Asked κs) (margin.Learnt κs) (λ a. spare-of (margin-asked (first a) (a .1 .0))) no-buffer
   pub closing_window : (κs : Lfts 1) →
       One-answer (closing_window.Asked κs) (closing_window.Learnt κs)
-      (λ a. window-of (window-asked (now (a .0)))) no-buffer
+      (λ a. window-of (window-asked (first a))) no-buffer
   pub judge : (κs : Lfts 1) →
-      One-answer (judge.Asked κs) (judge.Learnt κs) (λ a. judgement-of (verdict-asked (now (a .0)))) no-buffer
+      One-answer (judge.Asked κs) (judge.Learnt κs) (λ a. judgement-of (verdict-asked (first a))) no-buffer
   pub respond : (κs : Lfts 1) →
       One-answer (respond.Asked κs) (respond.Learnt κs)
-      (λ a. reply-of (response-asked (now (a .0)) (a .1 .0) (a .1 .1 .0))) no-buffer
+      (λ a. reply-of (response-asked (first a) (a .1 .0) (a .1 .1 .0))) no-buffer
   pub write_overload : (κs : Lfts 2) →
       One-answer (write_overload.Asked κs) (write_overload.Learnt κs)
-      (λ a. written-of (overload-asked (now (a .0)) (now (a .1 .0)) (a .1 .1 .0))) second
+      (λ a. written-of (overload-asked (first a) (second a) (a .1 .1 .0))) second
   pub check_list : (κs : Lfts 2) →
       One-answer (check_list.Asked κs) (check_list.Learnt κs)
-      (λ a. checked-of (list-asked (now (a .0)) (now (a .1 .0)))) no-buffer
+      (λ a. checked-of (list-asked (first a) (second a))) no-buffer
   pub load : (κs : Lfts 2) →
-      One-answer (load.Asked κs) (load.Learnt κs) (λ a. loading-of (now (a .0)) (now (a .1 .0))) no-buffer
+      One-answer (load.Asked κs) (load.Learnt κs) (λ a. loading-of (first a) (second a)) no-buffer
   pub replay : (κs : Lfts 2) →
       One-answer (replay.Asked κs) (replay.Learnt κs)
-      (λ a. ending-of (replay-asked (now (a .0)) (now (a .1 .0)))) no-buffer
+      (λ a. ending-of (replay-asked (first a) (second a))) no-buffer
   pub tick : (κs : Lfts 0) → One-answer (tick.Asked κs) (tick.Learnt κs) (λ a. tick-of (a .0)) no-buffer
   pub run : (κs : Lfts 0) → One-answer (run.Asked κs) (run.Learnt κs) (λ a. run-whole (a .0)) no-buffer
   pub finish : (κs : Lfts 0) →

@@ -20,7 +20,7 @@ module _ {table : Table} (good : ProperTable table) {limit window t : ℕ} {m : 
   -- a margin that is not below zero leaves the demand at most its time
   fits-calm : (u : ℕ) → 1 ≤ u → u ≤ window → all-demands table u ≤ u
   fits-calm u low high =
-      no-overload table u (is-not-below table u (fit .calm u low (omega (arith, fit .within))))
+      no-overload table u (is-not-below table u (fit .calm u low (omega (arith, fit .window-is .within))))
 
   pub fits-passes : (list : Requests) → Legal table list → Passes (jobs-of table list) window
   fits-passes list legal =
@@ -28,8 +28,8 @@ module _ {table : Table} (good : ProperTable table) {limit window t : ℕ} {m : 
         lasts = λ i inside.
             let known = legal .known i inside in
             omega (arith, good .proper _ (known .task) .waits (list .request i .frame) (known .frame));
-        from = fit .from;
-        closes = λ a. omega (arith, legal-came good legal a window, fit .closes);
+        from = fit .window-is .from;
+        closes = λ a. omega (arith, legal-came good legal a window, fit .window-is .closes);
         calm = λ a u low high.
             omega (
               arith,

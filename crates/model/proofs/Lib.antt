@@ -7,6 +7,7 @@ pub mod ClosingLaws
 pub mod WalkLaws
 pub mod Walking
 pub mod StartLaws
+pub mod WindowLaws
 pub mod VerdictLaws
 pub mod LoneTask
 pub mod EachTick

@@ -10,9 +10,10 @@ use Rattle.laws.proofs.SearchLaws.{Least, None, Right, least-right, least-is, n
 use Rattle.laws.proofs.LeastLaws.{First-least, first-least-right, first-least-one-only}
 use Rattle.model.specs.Task.{Table, ProperTable}
 use Rattle.model.specs.Demand.{margin}
-use Rattle.model.specs.Verdict.{closes, closing-window, overloads, first-overload, Verdict, overloaded, fits, undecided, overloaded-at, fits-at, judged, verdict}
-use Rattle.model.specs.Meaning.{Calm, Overloaded, Fits, Undecided, Means}
-use Rattle.model.proofs.ClosingLaws.{below-zero, not-below, is-below, is-not-below, closes-yes, closes-no, does-close, stays-open}
+use Rattle.model.specs.Verdict.{closing-window, overloads, first-overload, Verdict, overloaded, fits, undecided, overloaded-at, fits-at, judged, verdict}
+use Rattle.model.specs.Meaning.{Calm, Closing, Window-says, Overloaded, Fits, Undecided, Means}
+use Rattle.model.proofs.ClosingLaws.{below-zero, not-below, is-below, is-not-below}
+use Rattle.model.proofs.WindowLaws.{window-says, window-only}
 use Rattle.model.proofs.StartLaws.{starts-sixteen, starts-each, starts-past, starts-only}
 
 least-margin : (table : Table) (w : ℕ) → 1 ≤ w → First-least (margin table) w (first-least (margin table) w)
@@ -39,17 +40,13 @@ module _ {table : Table} (good : ProperTable table) (limit : ℕ) where
         past = starts-past good t;
       }
 
-  says-fits : (w : ℕ) → None (overloads table) limit 1 → Least (closes table) limit 1 w
-      → Means limit table (fits-at table w)
+  says-fits : (w : ℕ) → None (overloads table) limit 1 → Closing limit table w → Means limit table (fits-at table w)
   unfolding fits-at
-  says-fits w none l =
-      let low = least-margin table w (l .low) in
+  says-fits w none closing =
+      let low = least-margin table w (closing .from) in
       record {
         calm = calm-of none;
-        from = l .low;
-        within = omega (arith, l .high);
-        closes = does-close table w (l .passes);
-        least = λ v low less. stays-open table v (l .first v low less);
+        window-is = closing;
         t-from = low .from;
         t-within = low .within;
         margin-is = refl;
@@ -57,18 +54,17 @@ module _ {table : Table} (good : ProperTable table) (limit : ℕ) where
         first = low .first;
       }
 
-  says : (o c : Found) → Right (overloads table) limit 1 o → Right (closes table) limit 1 c
+  says : (o c : Found) → Right (overloads table) limit 1 o → Window-says limit table c
       → Means limit table (judged table o c)
-  says (at t) c over close = says-overloaded t over
-  says nowhere (at w) none close = says-fits w none close
-  says nowhere nowhere none open-still =
-      record { calm = calm-of none; open-ended = λ w low high. stays-open table w (open-still w low (omega arith)) }
+  says (at t) c over window = says-overloaded t over
+  says nowhere (at w) none closing = says-fits w none closing
+  says nowhere nowhere none open-ended = record { calm = calm-of none; open-ended = open-ended }
 
   pub verdict-means : Means limit table (verdict limit table)
-  unfolding verdict first-overload closing-window
+  unfolding verdict first-overload
   verdict-means =
       says (first-overload limit table) (closing-window limit table) (least-right (overloads table) limit 1)
-      (least-right (closes table) limit 1)
+      (window-says limit table)
 
   -- ---- and only the verdict says it
 
@@ -93,31 +89,21 @@ module _ {table : Table} (good : ProperTable table) (limit : ℕ) where
           }
 
   only-fits : (w : ℕ) (m : ℤ) (t : ℕ) → Fits limit table w m t → fits w m t ≡ verdict limit table
-  unfolding verdict closing-window fits-at
+  unfolding verdict fits-at
   only-fits w m t f =
       ap₂ (fits w) (f .margin-is ∙ ap (margin table) here) here
-      ∙ sym (ap₂ (judged table) (none-over (f .calm)) (least-is (closes table) limit 1 w found))
+      ∙ sym (ap₂ (judged table) (none-over (f .calm)) (sym (window-only limit table (at w) (f .window-is))))
     where
       here : t ≡ first-least (margin table) w
       here =
           first-least-one-only (margin table) w t (first-least (margin table) w)
           (record { from = f .t-from; within = f .t-within; least = f .lowest; first = f .first })
-          (least-margin table w (f .from))
-
-      found : Least (closes table) limit 1 w
-      found =
-          record {
-            low = f .from;
-            high = omega (arith, f .within);
-            passes = closes-yes table w (f .closes);
-            first = λ v low less. closes-no table v (f .least v low less);
-          }
+          (least-margin table w (f .window-is .from))
 
   only-undecided : Undecided limit table → undecided ≡ verdict limit table
-  unfolding verdict closing-window
+  unfolding verdict
   only-undecided u =
-      sym (ap₂ (judged table) (none-over (u .calm))
-      (none-is (closes table) limit 1 (λ w low high. closes-no table w (u .open-ended w low (omega arith)))))
+      sym (ap₂ (judged table) (none-over (u .calm)) (sym (window-only limit table nowhere (u .open-ended))))
 
   pub means-only : (v : Verdict) → Means limit table v → v ≡ verdict limit table
   means-only (overloaded t m l) o = only-overloaded t m l o

@@ -1,4 +1,4 @@
--- What each verdict says, as properties: document 01, "Verdict", one line for each of its claims.
+-- What the closing window and each verdict say, as properties: document 01, one line for each of their claims.
 -- Assumes nothing.
 use mathlib.Core.Path.{_≡_}
 use mathlib.Core.List.{List}
@@ -6,6 +6,7 @@ use Prim.Native.Nat.{ℕ, _≤_, _<_}
 use lib.IntN.{ℤ, pos}
 use lib.ListN.{length, getD}
 use lib.Signed.{_≤ℤ_, _<ℤ_}
+use Rattle.laws.specs.Search.{Found, at, nowhere}
 use Rattle.model.specs.Task.{Task, Table}
 use Rattle.model.specs.Demand.{counted, demand, all-work, margin}
 use Rattle.model.specs.Verdict.{Verdict, overloaded, fits, undecided}
@@ -20,6 +21,18 @@ Closes table w = all-work table w ≤ w
 
 abbrev pub Open : Table → ℕ → Type 0
 Open table n = (w : ℕ) → 1 ≤ w → w ≤ n → w < all-work table w
+
+-- "the least w from 1 to 65,536 with the sum of all tasks' work in w at most w"
+pub record Closing (limit : ℕ) (table : Table) (w : ℕ) : Type 0 where
+  pub from : 1 ≤ w
+  pub within : w ≤ limit
+  pub closes : Closes table w
+  pub least : (v : ℕ) → 1 ≤ v → v < w → v < all-work table v
+
+-- ".. if there is one": what the closing window says of the table
+abbrev pub Window-says : ℕ → Table → Found → Type 0
+Window-says limit table (at w) = Closing limit table w
+Window-says limit table nowhere = Open table limit
 
 -- s is "the lowest frame number that gives that task's demand at t"
 pub record Starts-at (task : Task) (t s : ℕ) : Type 0 where
@@ -41,10 +54,7 @@ pub record Overloaded (limit : ℕ) (table : Table) (t : ℕ) (m : ℤ) (starts 
 -- "fits, with that window, the least margin over t from 1 to the window, and the first t having it"
 pub record Fits (limit : ℕ) (table : Table) (window : ℕ) (m : ℤ) (t : ℕ) : Type 0 where
   pub calm : Calm table limit
-  pub from : 1 ≤ window
-  pub within : window ≤ limit
-  pub closes : Closes table window
-  pub least : (w : ℕ) → 1 ≤ w → w < window → w < all-work table w
+  pub window-is : Closing limit table window
   pub t-from : 1 ≤ t
   pub t-within : t ≤ window
   pub margin-is : m ≡ margin table t

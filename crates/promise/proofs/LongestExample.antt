@@ -62,10 +62,12 @@ longest-means =
     let table = table-of longest in
     record {
       calm = λ t from within. not-below table t (overloads-no table t (calm t));
-      from = lit≤ tt;
-      within = lit≤ tt;
-      closes = omega (arith, all-asked 65535 (lit≤ tt) (lit≤ tt));
-      least = λ w from less. omega (arith, all-asked w from (omega arith));
+      window-is = record {
+        from = lit≤ tt;
+        within = lit≤ tt;
+        closes = omega (arith, all-asked 65535 (lit≤ tt) (lit≤ tt));
+        least = λ w from less. omega (arith, all-asked w from (omega arith));
+      };
       t-from = lit≤ tt;
       t-within = lit≤ tt;
       margin-is = sym at-last;

@@ -5,14 +5,14 @@ use mathlib.Core.List.{List}
 use Prim.Native.Nat.{ℕ, _≤_, _<_}
 use native.Mathlib.Omega.{arith}
 use borrow.Author.Tests.{le-ltb, lt-leb}
-use Rattle.laws.specs.Search.{Found, at, nowhere}
-use Rattle.laws.proofs.SearchLaws.{Right, least-right}
+use Rattle.laws.specs.Search.{Found}
 use Rattle.model.specs.Task.{Task}
 use Rattle.model.specs.Demand.{demand, work, margin}
-use Rattle.model.specs.Verdict.{horizon, closes, closing-window}
+use Rattle.model.specs.Verdict.{horizon, closing-window}
+use Rattle.model.specs.Meaning.{Window-says}
 use Rattle.model.specs.Answer.{answered}
 use Rattle.model.proofs.AllLaws.{margin-zero}
-use Rattle.model.proofs.ClosingLaws.{does-close, stays-open}
+use Rattle.model.proofs.WindowLaws.{window-says}
 use Rattle.table.specs.Bytes.{Bytes}
 use Rattle.table.specs.TableOf.{table-of}
 use Rattle.table.specs.WellFormed.{WellFormed}
@@ -24,7 +24,7 @@ use Rattle.desk.specs.ResponseMeaning.{Told}
 use Rattle.desk.proofs.TableLaws.{table-asked, well-judged}
 use Rattle.desk.proofs.ListExact.{good-answered, replay-means}
 use Rattle.desk.proofs.ResponseExact.{frame-answered, response-told}
-use Rattle.promise.specs.Numbers.{Window-says, Replayed-rightly, Numbers}
+use Rattle.promise.specs.Numbers.{Replayed-rightly, Numbers}
 use Rattle.promise.proofs.BenchLaws.{loaded-rightly}
 use Rattle.promise.proofs.PassedLaws.{accepted-replayed}
 
@@ -44,22 +44,10 @@ module _ (s : List ℕ) (well : WellFormed s) where
   unfolding window-asked
   window-answered = table-asked s (λ table. answered (closing-window horizon table)) well
 
-  window-told : (w : Found) → window-asked s ≡ answered w → Window-says (table-of s) w
-  unfolding closing-window
+  window-told : (w : Found) → window-asked s ≡ answered w → Window-says horizon (table-of s) w
   window-told w asked =
-      let table = table-of s in
-      let is : closing-window horizon table ≡ w = cc (window-answered) in
-      subst (Window-says table) is (found-says (closing-window horizon table) (least-right (closes table) horizon 1))
-    where
-      found-says : (w : Found) → Right (closes (table-of s)) horizon 1 w → Window-says (table-of s) w
-      found-says (at w) least =
-          record {
-            from = least .low;
-            within = omega (arith, least .high);
-            closes = does-close (table-of s) w (least .passes);
-            least = λ v low less. stays-open (table-of s) v (least .first v low less);
-          }
-      found-says nowhere none = λ w low high. stays-open (table-of s) w (none w low (omega arith))
+      let is : closing-window horizon (table-of s) ≡ w = cc window-answered in
+      subst (Window-says horizon (table-of s)) is (window-says horizon (table-of s))
 
   replayed : Bytes s → (list : List ℕ) → Accepted (table-of s) list → Replayed-rightly s list
   replayed bytes list accepted =

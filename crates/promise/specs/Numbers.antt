@@ -6,11 +6,10 @@ use mathlib.Core.Path.{_≡_}
 use mathlib.Core.List.{List}
 use Prim.Native.Nat.{ℕ, _≤_, _<_}
 use lib.IntN.{pos}
-use Rattle.laws.specs.Search.{Found, at, nowhere}
-use Rattle.model.specs.Task.{Table}
-use Rattle.model.specs.Demand.{demand, work, all-work, margin}
+use Rattle.laws.specs.Search.{Found}
+use Rattle.model.specs.Demand.{demand, work, margin}
 use Rattle.model.specs.Verdict.{horizon, closing-window, verdict}
-use Rattle.model.specs.Meaning.{Closes, Open}
+use Rattle.model.specs.Meaning.{Window-says}
 use Rattle.model.specs.Request.{Has-frame}
 use Rattle.model.specs.Jobs.{jobs-of}
 use Rattle.model.specs.Machine.{sooner}
@@ -26,18 +25,6 @@ use Rattle.response.specs.Deadlines.{Within-P}
 use Rattle.desk.specs.Questions.{demand-asked, work-asked, margin-asked, window-asked, verdict-asked, list-asked, replay-asked}
 use Rattle.desk.specs.Response.{response-asked}
 use Rattle.promise.specs.Bench.{Loaded-rightly}
-
--- "the least w from 1 to 65,536 with the sum of all tasks' work in w at most w"
-pub record Closing (table : Table) (w : ℕ) : Type 0 where
-  pub from : 1 ≤ w
-  pub within : w ≤ horizon
-  pub closes : Closes table w
-  pub least : (v : ℕ) → 1 ≤ v → v < w → v < all-work table v
-
--- ".. if there is one"
-abbrev pub Window-says : Table → Found → Type 0
-Window-says table (at w) = Closing table w
-Window-says table nowhere = Open table horizon
 
 -- the bench's answer, which says of the machine what document 01 says
 pub record Replayed-rightly (s list : List ℕ) : Type 0 where
@@ -55,7 +42,7 @@ pub record Numbers (s : List ℕ) : Type 0 where
   pub margins : (t : ℕ) → t ≤ horizon → margin-asked s t ≡ answered (margin (table-of s) t)
   pub margin-at-0 : margin-asked s 0 ≡ answered (pos 0)
   pub window : window-asked s ≡ answered (closing-window horizon (table-of s))
-  pub window-says : (w : Found) → window-asked s ≡ answered w → Window-says (table-of s) w
+  pub window-says : (w : Found) → window-asked s ≡ answered w → Window-says horizon (table-of s) w
   pub verdict-is : verdict-asked s ≡ answered (verdict horizon (table-of s))
   -- "The desk .. gives fixed-priority response times": of a table with every D at most its P
   pub responses : (k i : ℕ) → Has-frame (table-of s) k i → Within-P s (records s)

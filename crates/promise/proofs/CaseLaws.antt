@@ -4,9 +4,9 @@
 use mathlib.Core.Bool.{Bool, false, _&&_}
 use mathlib.Core.Path.{_≡_}
 use mathlib.Core.List.{List}
-use Prim.Native.Nat.{ℕ, _<_}
+use Prim.Native.Nat.{ℕ}
 use lib.Dec.{T}
-use lib.ListN.{length, getD}
+use lib.ListN.{getD}
 use Rattle.laws.specs.Sums.{sum, greatest}
 use Rattle.laws.specs.Search.{least-from, up-to-last}
 use Rattle.laws.specs.Reader.{read-on, read-all}
@@ -29,7 +29,7 @@ use Rattle.desk.specs.Overload.{overload-asked}
 use Rattle.desk.specs.Response.{response-asked}
 use Rattle.promise.specs.Tables.{A, B, twenty}
 use Rattle.promise.specs.Asked.{Question, demand-of, verdict-on, replay-with, overload-into, response-to, first-values}
-use Rattle.promise.specs.Cases.{Given, Case, Is-given, times, tasks, cases}
+use Rattle.promise.specs.Cases.{Given, Case, Is-given, times, tasks, cases, Cases-given}
 use Rattle.promise.proofs.SameLaws.{same-answer, same-answer-is}
 use Rattle.promise.proofs.NamedLaws.{is-byte, are-bytes}
 use Rattle.promise.proofs.RefusalLaws.{exact-refusals}
@@ -84,5 +84,5 @@ unfolding cases right asked gets is-byte every same-answer A B twenty times task
     placed overload-list weave next-at taken-by foremost requests-by up-to-last bytes-to
 all-right = tt
 
-pub cases-given : (i : ℕ) → i < length cases → (other : Case) → Is-given (getD cases i other)
+pub cases-given : Cases-given
 cases-given i below other = right-given (getD cases i other) (every-at right cases other all-right i below)

@@ -7,7 +7,7 @@ use mathlib.Core.List.{List, [], _∷_}
 use Prim.Native.Nat.{ℕ, zero, suc, _<_}
 use native.Mathlib.Omega.{arith}
 use lib.Dec.{T, ltb, ltb→lt, lit<}
-use lib.ListN.{length, getD}
+use lib.ListN.{getD}
 use Rattle.laws.specs.Sums.{sum, greatest, tabulate}
 use Rattle.laws.specs.Search.{least-from, first-least, up-to-last}
 use Rattle.laws.specs.Reader.{read-on, read-all}
@@ -38,8 +38,8 @@ use Rattle.desk.specs.Overload.{on-overload, list-at, overload-asked}
 use Rattle.desk.specs.Response.{response-asked}
 use Rattle.desk.proofs.TableLaws.{table-refused, table-asked, table-told}
 use Rattle.promise.specs.Tables.{A, B, B-list, F, K7-task, four, twenty}
-use Rattle.promise.specs.Asked.{Question, demand-of, verdict-on, replay-with, overload-into, response-to, first-values, left-by, Said, values, said, Row}
-use Rattle.promise.specs.Named.{named}
+use Rattle.promise.specs.Asked.{Question, demand-of, verdict-on, replay-with, overload-into, response-to, first-values, left-by, Said, values, said, Row, Is-said}
+use Rattle.promise.specs.Named.{named, Named-right}
 use Rattle.promise.proofs.SameLaws.{same-int, same-list, same-verdict, same-replay, same-response, same-answer, same-written}
 use Rattle.promise.proofs.SameSaid.{same-left, same-said, same-said-is}
 
@@ -98,7 +98,7 @@ by-walk row = same-said (row .question) (quick (row .bytes) (row .question)) (ro
 right : Row → Bool
 right row = every is-byte (row .bytes) && by-walk row
 
-right-is : (row : Row) → T (right row) → said (row .bytes) (row .question) ≡ row .says
+right-is : (row : Row) → T (right row) → Is-said row
 unfolding right by-walk
 right-is row h =
     sym (quick-is (row .bytes) (both-left (every is-byte (row .bytes)) (by-walk row) h) (row .question))
@@ -119,8 +119,7 @@ unfolding named A B right by-walk quick is-byte every same-said same-answer same
 all-right = tt
 
 -- K1 to K9, and the list of four requests
-pub named-right : (i : ℕ) → i < length named → (other : Row)
-    → said (getD named i other .bytes) (getD named i other .question) ≡ getD named i other .says
+pub named-right : Named-right
 named-right i below other = right-is (getD named i other) (every-at right named other all-right i below)
 
 -- what stands past the end of the table, for those who cite one of its rows

@@ -1,5 +1,6 @@
 -- The questions of the named numbers, and what the rules say to each.
 -- Assumes nothing.
+use mathlib.Core.Path.{_≡_}
 use mathlib.Core.List.{List}
 use Prim.Native.Nat.{ℕ}
 use Rattle.laws.specs.Sums.{tabulate}
@@ -59,3 +60,7 @@ pub record Row : Type 0 where
   pub bytes : List ℕ
   pub question : Question
   pub says : Said question
+
+-- and that is what the rules say
+abbrev pub Is-said : Row → Type 0
+Is-said row = said (row .bytes) (row .question) ≡ row .says

@@ -2,7 +2,8 @@
 -- 13 is not among them, for no verdict of a table that fits is computed here: RefusalExamples has it.
 -- Assumes nothing.
 use mathlib.Core.List.{List, [], _∷_, _++_}
-use Prim.Native.Nat.{ℕ, zero, suc}
+use Prim.Native.Nat.{ℕ, zero, suc, _<_}
+use lib.ListN.{length, getD}
 use Rattle.table.specs.Refusals as Table
 use Rattle.desk.specs.Refusals as Lists
 use Rattle.desk.specs.ResponseMeaning as Response
@@ -80,9 +81,15 @@ cases =
     -- 11: "next request has the wrong frame or comes too soon"; "10 before 11"
     ∷ no-list (req 0 0 0 ++ req 0 2 3) 11 1 ∷ no-list (req 0 0 0 ++ req 0 1 2) 11 1
     ∷ no-list (req 0 0 1 ++ req 0 2 0) 10 1
+    -- "one task twice at the same arrival is refusal 10"
+    ∷ no-list (req 0 0 0 ++ req 0 1 0) 10 1
     -- 12: "the place lies past the buffer's end, or the list has more bytes than the buffer has from there"
     ∷ refuses B (overload-into [] 1) 12 0 ∷ refuses B (overload-into twenty 5) 12 0
     -- "Tables are tested first"
     ∷ refuses [] (demand-of 1 65537) 1 0 ∷ refuses [] (response-to 1 0) 1 0 ∷ refuses [] (replay-with (0 ∷ [])) 1 0
     ∷ refuses [] (overload-into [] 1) 1 0
     ∷ []
+
+-- each of them; `other` stands past their end
+abbrev pub Cases-given : Type 0
+Cases-given = (i : ℕ) → i < length cases → (other : Case) → Is-given (getD cases i other)

@@ -1,9 +1,9 @@
 -- The named numbers of document 01, "Numbers to hold it to": a row for each, a question on bytes and its answer.
 -- Assumes nothing.
 use mathlib.Core.List.{List, [], _∷_, _++_}
-use Prim.Native.Nat.{ℕ}
+use Prim.Native.Nat.{ℕ, _<_}
 use lib.IntN.{pos, negsuc}
-use lib.ListN.{replicate}
+use lib.ListN.{length, getD, replicate}
 use Rattle.model.specs.Verdict.{Verdict, overloaded, fits}
 use Rattle.model.specs.Replay.{missed}
 use Rattle.model.specs.Response.{on-time}
@@ -12,7 +12,7 @@ use Rattle.overload.specs.declared.write.Written.{Written}
 use Rattle.overload.specs.declared.write.Written.the-variants.{Bytes, Refused}
 use Rattle.desk.specs.Written.{refusal}
 use Rattle.promise.specs.Tables.{sporadic, A, B, B-list, F, K7-task, four, twenty}
-use Rattle.promise.specs.Asked.{demand-of, verdict-on, replay-with, overload-into, response-to, first-values, Row}
+use Rattle.promise.specs.Asked.{demand-of, verdict-on, replay-with, overload-into, response-to, first-values, Row, Is-said}
 
 abbrev of-A : ℕ → ℕ → Row
 of-A t n = record { bytes = A; question = demand-of 0 t; says = answered n }
@@ -63,3 +63,7 @@ named =
     -- K9 F, task 3 frame 1: response 9, 2 rounds
     ∷ on-F 3 1 9 2
     ∷ []
+
+-- every row of it; `other` stands past its end
+abbrev pub Named-right : Type 0
+Named-right = (i : ℕ) → i < length named → (other : Row) → Is-said (getD named i other)

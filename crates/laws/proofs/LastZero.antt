@@ -13,22 +13,23 @@ pub record Last-zero (f : ℕ → ℕ) (d : ℕ) : Type 0 where
   pub is-zero : f place ≡ 0
   pub after : (t : ℕ) → t < suc d → place < t → 0 < f t
 
-pub last-zero : (f : ℕ → ℕ) → f 0 ≡ 0 → (d : ℕ) → Last-zero f d
-last-zero f none zero =
-    record { place = 0; within = le-refl 0; is-zero = none; after = λ t within past. absurd (omega arith) }
-last-zero f none (suc d) =
-    let last = last-zero f none d in
-    elim (lt-or-le 0 (f (suc d))) [
-      | inl some ↦ record {
+module _ (f : ℕ → ℕ) where
+  -- one number more: it is the last, or the last stays
+  zero-here : (d : ℕ) → f d ≡ 0 → Last-zero f d
+  zero-here d none =
+      record { place = d; within = le-refl d; is-zero = none; after = λ t within past. absurd (omega arith) }
+
+  zero-kept : (d : ℕ) → 0 < f (suc d) → Last-zero f d → Last-zero f (suc d)
+  zero-kept d some last =
+      record {
         place = last .place;
         within = le-step (last .within);
         is-zero = last .is-zero;
         after = below-suc (λ t. last .place < t → 0 < f t) (suc d) (last .after) (λ past. some);
       }
-      | inr here ↦ record {
-        place = suc d;
-        within = le-refl (suc d);
-        is-zero = omega arith;
-        after = λ t within past. absurd (omega arith);
-      }
-    ]
+
+  pub last-zero : f 0 ≡ 0 → (d : ℕ) → Last-zero f d
+  last-zero none zero = zero-here 0 none
+  last-zero none (suc d) =
+      elim (lt-or-le 0 (f (suc d)))
+      [ inl some ↦ zero-kept d some (last-zero none d) | inr most ↦ zero-here (suc d) (omega arith) ]

@@ -18,6 +18,9 @@ one-either : (b : Bool) → _≡_ {A = ℕ} (cond b 1 1) 1
 one-either true = refl
 one-either false = refl
 
+next-is : (n u : ℕ) → n < u → u ≤ suc n → suc n ≡ u
+next-is n u past most = omega arith
+
 -- i is the first of 1, .., n at which f is least
 pub record First-least (f : ℕ → ℤ) (n i : ℕ) : Type 0 where
   pub from : 1 ≤ i
@@ -37,12 +40,9 @@ module _ (f : ℕ → ℤ) where
       at-most : (u : ℕ) → 1 ≤ u → u ≤ suc n → f (suc n) ≤ℤ f u
       at-most u h k =
           elim (lt-or-le n u) [
-            | inl last ↦ subst (λ (v : ℕ). f (suc n) ≤ℤ f v) (same last) (≤ℤ-refl (f (suc n)))
+            | inl last ↦ subst (λ (v : ℕ). f (suc n) ≤ℤ f v) (next-is n u last k) (≤ℤ-refl (f (suc n)))
             | inr before ↦ lt-le (f (suc n)) (f u) (below u h before)
           ]
-        where
-          same : n < u → suc n ≡ u
-          same last = omega arith
 
   kept : (n i : ℕ) → First-least f n i → f i ≤ℤ f (suc n) → First-least f (suc n) i
   kept n i l higher =
@@ -51,10 +51,7 @@ module _ (f : ℕ → ℤ) where
       at-most : (u : ℕ) → 1 ≤ u → u ≤ suc n → f i ≤ℤ f u
       at-most u h k =
           elim (lt-or-le n u)
-          [ inl last ↦ subst (λ (v : ℕ). f i ≤ℤ f v) (same last) higher | inr before ↦ l .least u h before ]
-        where
-          same : n < u → suc n ≡ u
-          same last = omega arith
+          [ inl last ↦ subst (λ (v : ℕ). f i ≤ℤ f v) (next-is n u last k) higher | inr before ↦ l .least u h before ]
 
   first-least-one : first-least f 1 ≡ 1
   unfolding first-least

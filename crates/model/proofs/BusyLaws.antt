@@ -71,13 +71,7 @@ module _ {jobs : Jobs} (service : Service jobs) (class : Class) where
     -- the class was last clear at `last`
     from-last : (last : Last-zero (open-work service class) d) → last .place < d → Busy service class d
     from-last last earlier =
-        record {
-          from = last .place;
-          before = earlier;
-          clear = last .is-zero;
-          after = after;
-          more = more;
-        }
+        record { from = last .place; before = earlier; clear = last .is-zero; after = after; more = more }
       where
         after : (t : ℕ) → last .place < t → t ≤ d → 0 < open-work service class t
         after t past within = last .after t (omega arith) past

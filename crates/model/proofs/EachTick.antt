@@ -6,6 +6,8 @@ use mathlib.Core.Logic.{inl, inr}
 use Prim.Native.Nat.{ℕ, zero, suc, _+_, _-_, _*_, _≤_}
 use native.Mathlib.Nat.{zero-mul, suc-mul, mul-le-mul-left}
 use native.Mathlib.Omega.{arith}
+use lib.Dec.{leb}
+use Rattle.laws.specs.Sums.{only}
 use Rattle.laws.proofs.Cases.{lt-or-le}
 use Rattle.laws.proofs.SumLaws.{gate}
 use Rattle.model.specs.Task.{Task, Table, ProperTable}
@@ -19,43 +21,33 @@ use Rattle.model.proofs.LoneTask.{Lone, frame-lone, lone-proper, work-l
 -- ---- products
 
 product-none : (x r e : ℕ) → x ≤ r → (x - r) * e ≡ 0
-product-none x r e early = ap (λ (n : ℕ). n * e) none ∙ zero-mul e
-  where
-    none : x - r ≡ 0
-    none = omega arith
+product-none x r e early = let none : x - r ≡ 0 = omega arith in ap (λ (n : ℕ). n * e) none ∙ zero-mul e
 
-product-more : (x r e : ℕ) → r ≤ x → (suc x - r) * e ≡ (x - r) * e + e
-product-more x r e fits = ap (λ (n : ℕ). n * e) more ∙ suc-mul (x - r) e
-  where
-    more : suc x - r ≡ suc (x - r)
-    more = omega arith
+-- from r on, one e more at each number
+product-next : (x r e : ℕ) → (suc x - r) * e ≡ only (leb r x) e + (x - r) * e
+product-next x r e =
+    elim (lt-or-le x r) [
+      | inl early ↦
+          omega (arith, gate r x e .shut early, product-none x r e (omega arith), product-none (suc x) r e early)
+      | inr fits ↦
+          let more : suc x - r ≡ suc (x - r) = omega arith in
+          omega (arith, gate r x e .passes fits, ap (λ (n : ℕ). n * e) more, suc-mul (x - r) e)
+    ]
 
 module _ {task : Task} {reach : ℕ → ℕ} (moves : Moves task reach) (one : task .count ≡ 1) (gap : task .P 0 ≡ 1) where
-  -- from the reach on, one more frame counts at each tick
+  -- one tick more: the frame that comes first, if it counts, and what counted before
+  counted-next : (t : ℕ)
+      → counted task reach (suc t) 0 ≡ only (leb (reach 0) (suc t)) (task .E 0) + counted task reach t 0
+  counted-next t =
+      let less : suc t - task .P 0 ≡ t = omega arith in
+      rw (less, frame-lone moves one) at (counted-on moves (suc t) 0 (omega arith))
+
+  -- so from the reach on, one more frame counts at each tick
   counted-each : (t : ℕ) → counted task reach t 0 ≡ (suc t - reach 0) * task .E 0
   counted-each zero =
-      omega (
-        arith,
-        counted-zero moves 0,
-        product-none 1 (reach 0) (task .E 0) (moves .room 0 (omega arith)),
-      )
+      omega (arith, counted-zero moves 0, product-none 1 (reach 0) (task .E 0) (moves .room 0 (omega arith)))
   counted-each (suc t) =
-      let less : suc t - task .P 0 ≡ t = omega arith in
-      let on = rw (less, frame-lone moves one) at (counted-on moves (suc t) 0 (omega arith)) in
-      let first = gate (reach 0) (suc t) (task .E 0) in
-      elim (lt-or-le (suc t) (reach 0)) [
-        | inl early ↦
-            omega (
-              arith,
-              on,
-              counted-each t,
-              first .shut early,
-              product-none (suc t) (reach 0) (task .E 0) (omega arith),
-              product-none (suc (suc t)) (reach 0) (task .E 0) early,
-            )
-        | inr fits ↦
-            omega (arith, on, counted-each t, first .passes fits, product-more (suc t) (reach 0) (task .E 0) fits)
-      ]
+      omega (arith, counted-next t, counted-each t, product-next (suc t) (reach 0) (task .E 0))
 
 module _ {table : Table} {e d : ℕ} (good : ProperTable table) (lone : Lone table e d 1) where
   pub work-each : (w : ℕ) → all-work table w ≡ w * e

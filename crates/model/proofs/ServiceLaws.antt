@@ -10,7 +10,6 @@ use lib.Dec.{leb}
 use borrow.Author.Tests.{le-leb, eqb-true, eq-eqb, ne-eqb}
 use Rattle.laws.specs.Sums.{only}
 use Rattle.laws.specs.Search.{Found, at, nowhere}
-use Rattle.laws.proofs.Falling.{falling-mono}
 use Rattle.laws.proofs.GateLaws.{only-implied}
 use Rattle.model.specs.Jobs.{Jobs}
 use Rattle.model.specs.Machine.{give}
@@ -50,10 +49,6 @@ module _ {jobs : Jobs} (service : Service jobs) where
       where
         one : only (is-for (service .serves t) k) 1 ≡ 1
         one = rw (here, eq-eqb k k refl)
-
-    -- what is left never rises
-    pub service-mono : (s t : ℕ) → s ≤ t → service .left t k ≤ service .left s k
-    service-mono = falling-mono (λ t. service .left t k) service-falls
 
     -- a tick that goes to a job comes no earlier than it
     arrived : (t : ℕ) → is-for (service .serves t) k ≡ true → jobs .arrive k ≤ t

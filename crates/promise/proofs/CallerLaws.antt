@@ -89,6 +89,15 @@ module _ (s : Slice) where
               (over .read-back (now buffer) place n (now (x .1 .0)) told),
         )
 
+    wrote : (buffer : Slice) (place n : ℕ) (after : List ℕ) → Writes s buffer place (written.Bytes n) after
+        → let list = list-of (take n (drop place after)) in
+        Legal (table-of (now s)) list × No-schedule (table-of (now s)) list
+    wrote buffer place n after writes =
+        let (t, over, is) = shown buffer place n after writes in (
+          subst (λ (l : List ℕ). Legal (table-of (now s)) (list-of l)) (sym is) (over .legal),
+          subst (λ (l : List ℕ). No-schedule (table-of (now s)) (list-of l)) (sym is) (over .no-schedule),
+        )
+
     -- a list that is replayed was accepted
     replayed-good : (list : Slice) {r : Replayed} → replay-asked (now s) (now list) ≡ answered r
         → Accepted (table-of (now s)) (now list)
@@ -123,11 +132,7 @@ module _ (s : Slice) where
           undecided = λ r judges is. judged-means (now s) bytes (judges-asked r judges is);
           refused = λ r judges y is.
               exact-refusals (now s) bytes .verdict .only (y .number) (y .index) (judges-asked r judges is);
-          wrote = λ buffer place n after writes.
-              let (t, over, is) = shown buffer place n after writes in (
-                subst (λ (l : List ℕ). Legal (table-of (now s)) (list-of l)) (sym is) (over .legal),
-                subst (λ (l : List ℕ). No-schedule (table-of (now s)) (list-of l)) (sym is) (over .no-schedule),
-              );
+          wrote = wrote;
           left-alone = λ buffer place y after (κs, x, told, is).
               sym is ∙ wrote-leaves (now s) (now buffer) place bytes told .same;
           never-missed = never-missed;

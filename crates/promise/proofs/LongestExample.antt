@@ -56,18 +56,23 @@ positive u some less = rw (none-due u less, sub-zero-is u) (lt-test (pos 0) (pos
 at-last : margin (table-of longest) 65535 ≡ pos 0
 at-last = rw (due-first 65535 (lit≤ tt)) refl
 
+longest-closes : Meaning.Closing horizon (table-of longest) 65535
+unfolding horizon
+longest-closes =
+    record {
+      from = lit≤ tt;
+      within = lit≤ tt;
+      closes = omega (arith, all-asked 65535 (lit≤ tt) (lit≤ tt));
+      least = λ w from less. omega (arith, all-asked w from (omega arith));
+    }
+
 longest-means : Meaning.Fits horizon (table-of longest) 65535 (pos 0) 65535
 unfolding horizon
 longest-means =
     let table = table-of longest in
     record {
       calm = λ t from within. not-below table t (overloads-no table t (calm t));
-      window-is = record {
-        from = lit≤ tt;
-        within = lit≤ tt;
-        closes = omega (arith, all-asked 65535 (lit≤ tt) (lit≤ tt));
-        least = λ w from less. omega (arith, all-asked w from (omega arith));
-      };
+      window-is = longest-closes;
       t-from = lit≤ tt;
       t-within = lit≤ tt;
       margin-is = sym at-last;

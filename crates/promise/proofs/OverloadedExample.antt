@@ -39,16 +39,16 @@ B-writes-it =
 abbrev pub B-jobs : Jobs
 B-jobs = jobs-of (table-of B) (list-of B-list)
 
-pub B-none : No-schedule (table-of B) (list-of B-list)
-B-none = subst (λ list. No-schedule (table-of B) (list-of list)) B-writes-it (B-promised .no-schedule)
+pub B-no-schedule : No-schedule (table-of B) (list-of B-list)
+B-no-schedule = subst (λ list. No-schedule (table-of B) (list-of list)) B-writes-it (B-promised .no-schedule)
 
 -- the machine's own gives both ticks to request 0, which asks for two
 abbrev pub its-own : Schedule
 its-own = machine-serves B-jobs (sooner B-jobs)
 
-pub own-leaves : B-none its-own .job ≡ 1
+pub own-leaves : B-no-schedule its-own .job ≡ 1
 unfolding A B B-list record-of records-before records-of task-of entry-of sum units left-at pick sooner
-own-leaves = which (B-none its-own .job) (B-none its-own .inside) (B-none its-own .short)
+own-leaves = which (B-no-schedule its-own .job) (B-no-schedule its-own .inside) (B-no-schedule its-own .short)
   where
     which : (k : ℕ) → k < B-jobs .count → units its-own k (B-jobs .arrive k) (B-jobs .due k) < B-jobs .amount k → k ≡ 1
     which zero inside short = absurd (omega arith)
@@ -60,9 +60,9 @@ abbrev pub other-first : Schedule
 other-first zero = at 1
 other-first (suc t) = at 0
 
-pub other-leaves : B-none other-first .job ≡ 0
+pub other-leaves : B-no-schedule other-first .job ≡ 0
 unfolding A B B-list record-of records-before records-of task-of entry-of sum units
-other-leaves = which (B-none other-first .job) (B-none other-first .inside) (B-none other-first .short)
+other-leaves = which (B-no-schedule other-first .job) (B-no-schedule other-first .inside) (B-no-schedule other-first .short)
   where
     which : (k : ℕ) → k < B-jobs .count → units other-first k (B-jobs .arrive k) (B-jobs .due k) < B-jobs .amount k
         → k ≡ 0

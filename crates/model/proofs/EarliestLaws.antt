@@ -15,10 +15,10 @@ use Rattle.laws.proofs.Every.{and-true-left, and-true-right}
 use Rattle.laws.proofs.GateLaws.{only-wider}
 use Rattle.laws.proofs.SumLaws.{sum-mono}
 use Rattle.model.specs.Jobs.{Jobs}
-use Rattle.model.specs.Machine.{sooner, left-at}
+use Rattle.model.specs.Machine.{Strict, sooner, left-at}
 use Rattle.model.specs.Schedule.{units, due-within}
 use Rattle.model.specs.Service.{Service, machine-serves, Class, every-job, due-up-to, Prefers, came, open-work, Busy, Passes}
-use Rattle.model.proofs.OrderLaws.{Strict, sooner-strict, not-sooner-due}
+use Rattle.model.proofs.OrderLaws.{sooner-strict, not-sooner-due}
 use Rattle.model.proofs.ServiceLaws.{service-gets}
 use Rattle.model.proofs.BusyLaws.{open-has, busy}
 use Rattle.model.proofs.MachineService.{machine, machine-prefers}

@@ -11,9 +11,9 @@ use Rattle.laws.specs.Search.{Found, at, nowhere}
 use Rattle.laws.proofs.Falling.{falling-mono}
 use Rattle.laws.proofs.Every.{and-true-left, and-true-right}
 use Rattle.model.specs.Jobs.{Jobs}
-use Rattle.model.specs.Machine.{Order, sooner, ready, chosen, give, left-at}
+use Rattle.model.specs.Machine.{Order, Strict, sooner, ready, chosen, give, left-at}
 use Rattle.model.specs.Tick.{Pending, Gives, One-unit, idle, gives}
-use Rattle.model.proofs.OrderLaws.{Strict, not-sooner-due}
+use Rattle.model.proofs.OrderLaws.{not-sooner-due}
 use Rattle.model.proofs.PickRight.{Picked, pick-right}
 
 -- ---- any amounts left

@@ -6,10 +6,9 @@ use mathlib.Core.Path.{_≡_, refl, sym, _∙_, subst}
 use Prim.Native.Nat.{ℕ}
 use Rattle.laws.specs.Search.{Found, at, nowhere}
 use Rattle.model.specs.Jobs.{Jobs}
-use Rattle.model.specs.Machine.{Order, ready, left-at}
+use Rattle.model.specs.Machine.{Order, Strict, ready, left-at}
 use Rattle.model.specs.Tick.{Pending}
 use Rattle.model.specs.Service.{Service, machine-serves, Class, Serves, Prefers, Leads}
-use Rattle.model.proofs.OrderLaws.{Strict}
 use Rattle.model.proofs.PickRight.{Picked, pick-right}
 use Rattle.model.proofs.MachineLaws.{ready-is, is-ready, left-start, left-step}
 

@@ -6,11 +6,11 @@ use Prim.Native.Nat.{ℕ, _<_}
 use native.Mathlib.Nat.{le-refl}
 use native.Mathlib.Omega.{arith}
 use Rattle.model.specs.Jobs.{Jobs}
-use Rattle.model.specs.Machine.{Order, sooner, left-at}
+use Rattle.model.specs.Machine.{Order, Strict, sooner, left-at}
 use Rattle.model.specs.Schedule.{Unfinished, Too-much}
 use Rattle.model.specs.Replay.{Late-at, Missed, Met}
 use Rattle.model.specs.Service.{machine-serves}
-use Rattle.model.proofs.OrderLaws.{Strict, sooner-strict}
+use Rattle.model.proofs.OrderLaws.{sooner-strict}
 use Rattle.model.proofs.MachineLaws.{left-mono}
 use Rattle.model.proofs.ScheduleLaws.{no-schedule}
 use Rattle.model.proofs.ServiceLaws.{service-gets}

@@ -1,5 +1,5 @@
--- Orders of jobs: what an order must keep to for the machine's choice to mean something, and that the order of
--- document 01, "the earliest deadline, ties by lower task, then earlier arrival", does.
+-- Orders of jobs: that the order of document 01, "the earliest deadline, ties by lower task, then earlier arrival", is
+-- strict, as an order must be for the machine's choice to mean something.
 -- Assumes nothing.
 use mathlib.Core.Path.{_≡_, refl, sym, _∙_}
 use mathlib.Core.Logic.{_⊎_, inl, inr}
@@ -11,11 +11,7 @@ use lib.Dec.{ltb}
 use borrow.Author.Tests.{ltb-true, lt-ltb, le-ltb, eq-eqb, ne-eqb}
 use Rattle.laws.proofs.Cases.{lt-or-le}
 use Rattle.model.specs.Jobs.{Jobs}
-use Rattle.model.specs.Machine.{Order, first-by, sooner}
-
-pub record Strict (before : Order) : Type 0 where
-  pub irreflexive : (i : ℕ) → before i i ≡ false
-  pub transitive : (i j k : ℕ) → before i j ≡ true → before j k ≡ true → before i k ≡ true
+use Rattle.model.specs.Machine.{Order, Strict, first-by, sooner}
 
 -- ---- the smaller first
 

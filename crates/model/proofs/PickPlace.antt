@@ -5,8 +5,7 @@ use mathlib.Core.Bool.{Bool, true, false, cond, not, _&&_, _||_}
 use Prim.Native.Nat.{ℕ, zero, suc, _≤_, _<_}
 use native.Mathlib.Omega.{arith}
 use Rattle.laws.specs.Search.{Found, at, nowhere, place-or}
-use Rattle.model.specs.Machine.{Order, pick}
-use Rattle.model.proofs.OrderLaws.{Strict}
+use Rattle.model.specs.Machine.{Order, Strict, pick}
 use Rattle.model.proofs.PickLaws.{pick-skips, pick-tries, pick-first, pick-below, pick-passes}
 use Rattle.model.proofs.PickRight.{Picked, pick-right}
 

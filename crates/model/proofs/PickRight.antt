@@ -7,9 +7,8 @@ use native.Mathlib.Omega.{arith}
 use native.Mathlib.Nat.{le-refl, le-step}
 use Rattle.laws.specs.Search.{Found, at, nowhere}
 use Rattle.laws.proofs.Cases.{below-suc}
-use Rattle.model.specs.Machine.{Order, first-of, pick}
+use Rattle.model.specs.Machine.{Order, Strict, first-of, pick}
 use Rattle.model.proofs.PickLaws.{pick-start, pick-skips, pick-tries}
-use Rattle.model.proofs.OrderLaws.{Strict}
 
 -- b passes, and none of those below n that pass goes before it
 pub record First (test : ℕ → Bool) (before : Order) (n b : ℕ) : Type 0 where

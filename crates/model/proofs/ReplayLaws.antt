@@ -6,10 +6,9 @@ use native.Mathlib.Omega.{arith}
 use native.Mathlib.Nat.{le-refl}
 use Rattle.laws.proofs.Cases.{neither-lower}
 use Rattle.model.specs.Jobs.{Jobs}
-use Rattle.model.specs.Machine.{Order, left-at}
+use Rattle.model.specs.Machine.{Order, Strict, left-at}
 use Rattle.model.specs.Tick.{Gives}
 use Rattle.model.specs.Replay.{Replayed, missed, all-met, Missed, Met, Says}
-use Rattle.model.proofs.OrderLaws.{Strict}
 use Rattle.model.proofs.MachineLaws.{left-unit, unit-changed}
 
 module _ (jobs : Jobs) (before : Order) where

@@ -1,6 +1,7 @@
 -- The machine on jobs, over any order of them: document 01, "The replay bench".
 -- Assumes nothing.
 use mathlib.Core.Bool.{Bool, true, false, cond, _&&_, _||_}
+use mathlib.Core.Path.{_≡_}
 use Prim.Native.Nat.{ℕ, zero, suc, _-_}
 use lib.Dec.{leb, ltb, eqb}
 use Rattle.laws.specs.Sums.{only}
@@ -10,6 +11,11 @@ use Rattle.model.specs.Jobs.{Jobs}
 -- whether the one job goes before the other, by their numbers
 abbrev pub Order : Type 0
 Order = ℕ → ℕ → Bool
+
+-- what an order must keep to for the first in it to mean something
+pub record Strict (before : Order) : Type 0 where
+  pub irreflexive : (i : ℕ) → before i i ≡ false
+  pub transitive : (i j k : ℕ) → before i j ≡ true → before j k ≡ true → before i k ≡ true
 
 -- the smaller first; where they are equal, what else decides
 abbrev pub first-by : ℕ → ℕ → Bool → Bool

@@ -31,7 +31,7 @@ use Rattle.desk.proofs.ListExact.{list-told}
 use Rattle.desk.proofs.WritingExact.{over-judged}
 use Rattle.desk.proofs.WritingLeft.{wrote-leaves}
 use Rattle.promise.specs.Promises.{No-schedule, Overload-shown}
-use Rattle.promise.specs.Callers.{Slice, Judges, Writes, Replays, Callers, Relied-on}
+use Rattle.promise.specs.Callers.{Slice, Judges, Writes, Replays, Callers}
 use Rattle.promise.proofs.JudgedLaws.{judged-means}
 use Rattle.promise.proofs.RefusalLaws.{exact-refusals}
 use Rattle.promise.proofs.PassedLaws.{passed}
@@ -124,8 +124,8 @@ module _ (s : Slice) where
         let apart : _≡_ {A = ℕ} 0 1 = cc (asked, same, missed .is) in
         absurd (omega arith)
 
-    relied : Callers s
-    relied =
+    pub callers : Callers s
+    callers =
         record {
           passed = λ r judges window t m is. passed (now s) bytes (judges-asked r judges is);
           overloaded = λ r judges t m is. overloaded-shown (now s) bytes (judges-asked r judges is);
@@ -138,6 +138,3 @@ module _ (s : Slice) where
           never-missed = never-missed;
           never-met = never-met;
         }
-
-pub callers : Relied-on
-callers = relied

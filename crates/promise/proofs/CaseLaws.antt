@@ -1,16 +1,15 @@
 -- Every case of specs/Cases.antt is refused as it says: one computed test of the whole table. So by the exact refusals
 -- its refusal is the one it is given.
 -- Assumes nothing.
-use mathlib.Core.Bool.{Bool, false, _&&_}
+use mathlib.Core.Bool.{Bool, false}
 use mathlib.Core.Path.{_≡_}
 use mathlib.Core.List.{List}
 use Prim.Native.Nat.{ℕ}
 use lib.Dec.{T}
-use lib.ListN.{getD}
 use Rattle.laws.specs.Sums.{sum, greatest}
 use Rattle.laws.specs.Search.{least-from, up-to-last}
 use Rattle.laws.specs.Reader.{read-on, read-all}
-use Rattle.laws.proofs.Every.{both-left, both-right, every, every-at}
+use Rattle.laws.proofs.Every.{every}
 use Rattle.model.specs.Demand.{frame, offset, counted, lowest, all-demands}
 use Rattle.model.specs.Request.{last-arrival}
 use Rattle.model.specs.Verdict.{horizon, overloads, first-overload, overloaded-at, verdict}
@@ -31,7 +30,7 @@ use Rattle.promise.specs.Tables.{A, B, twenty}
 use Rattle.promise.specs.Asked.{Question, demand-of, verdict-on, replay-with, overload-into, response-to, first-values}
 use Rattle.promise.specs.Cases.{Given, Case, Is-given, times, tasks, cases, Cases-given}
 use Rattle.promise.proofs.SameLaws.{same-answer, same-answer-is}
-use Rattle.promise.proofs.NamedLaws.{is-byte, are-bytes}
+use Rattle.promise.proofs.RowLaws.{is-byte, right, rows-right}
 use Rattle.promise.proofs.RefusalLaws.{exact-refusals}
 
 -- the answer is this refusal
@@ -64,19 +63,15 @@ module _ (s : List ℕ) (bytes : Bytes s) (n i : ℕ) where
       exact-refusals s bytes .response k j .only n i (gets-is n i (response-asked s k j) h)
   asked-given (first-values many k j) h = absurd h
 
-right : Case → Bool
-right c = every is-byte (c .bytes) && asked (c .bytes) (c .question) (c .number) (c .index)
+is-refused : Case → Bool
+is-refused c = asked (c .bytes) (c .question) (c .number) (c .index)
 
-right-given : (c : Case) → T (right c) → Is-given c
-unfolding right
-right-given c h =
-    let all = every is-byte (c .bytes) in
-    let it = asked (c .bytes) (c .question) (c .number) (c .index) in
-    asked-given (c .bytes) (are-bytes (c .bytes) (both-left all it h)) (c .number) (c .index) (c .question)
-    (both-right all it h)
+refused-given : (c : Case) → Bytes (c .bytes) → T (is-refused c) → Is-given c
+unfolding is-refused
+refused-given c bytes = asked-given (c .bytes) bytes (c .number) (c .index) (c .question)
 
-all-right : T (every right cases)
-unfolding cases right asked gets is-byte every same-answer A B twenty times tasks
+all-right : T (every (right (λ c. c .bytes) is-refused) cases)
+unfolding cases right is-refused asked gets is-byte every same-answer A B twenty times tasks
     demand-asked verdict-asked response-asked replay-asked overload-asked
     reading-of read-all read-on record-of records-before records-of task-of
     check-of entry-of last-arrival first-above horizon sum least-from frame
@@ -85,4 +80,4 @@ unfolding cases right asked gets is-byte every same-answer A B twenty times task
 all-right = tt
 
 pub cases-given : Cases-given
-cases-given i below other = right-given (getD cases i other) (every-at right cases other all-right i below)
+cases-given = rows-right (λ c. c .bytes) is-refused Is-given refused-given cases all-right

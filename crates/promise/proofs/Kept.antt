@@ -1,15 +1,22 @@
--- The three demands are kept, of any bytes.
+-- The promise is kept: the three demands of any bytes, the one answer of every function, the named numbers, and what a
+-- caller of the code may rely on.
 -- Assumes nothing.
-use Rattle.promise.specs.Demands.{Promised}
+use mathlib.Core.List.{List}
+use Prim.Native.Nat.{ℕ}
+use Rattle.table.specs.Bytes.{Bytes}
+use Rattle.promise.specs.Demands.{Demands, Promised}
 use Rattle.promise.proofs.RefusalLaws.{exact-refusals}
 use Rattle.promise.proofs.BenchLaws.{ticks-rightly}
 use Rattle.promise.proofs.NumberLaws.{numbers}
 use Rattle.promise.proofs.PassedLaws.{passed}
 use Rattle.promise.proofs.OverloadedLaws.{overloaded-shown}
 use Rattle.promise.proofs.JudgedLaws.{judged-rightly}
+use Rattle.promise.proofs.OneAnswerLaws.{one-answer-each}
+use Rattle.promise.proofs.NamedLaws.{named-right}
+use Rattle.promise.proofs.CallerLaws.{callers}
 
-pub kept : Promised
-kept s bytes =
+demands : (s : List ℕ) → Bytes s → Demands s
+demands s bytes =
     record {
       refusals = exact-refusals s bytes;
       numbers = λ well. numbers s well bytes;
@@ -18,3 +25,6 @@ kept s bytes =
       overloaded = overloaded-shown s bytes;
       judged = judged-rightly s bytes;
     }
+
+pub kept : Promised
+kept = record { demands = demands; settled = one-answer-each; named = named-right; callers = callers }

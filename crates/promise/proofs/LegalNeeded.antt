@@ -16,7 +16,8 @@ use Rattle.table.specs.TableOf.{records-before, records-of, task-of, table-of}
 use Rattle.promise.specs.Tables.{sporadic}
 use Rattle.promise.specs.Named.{named}
 use Rattle.promise.specs.Promises.{Finishes-each, Passed}
-use Rattle.promise.proofs.NamedLaws.{named-right, no-row, is-byte, are-bytes}
+use Rattle.promise.proofs.NamedLaws.{named-right, no-row}
+use Rattle.promise.proofs.RowLaws.{is-byte, are-bytes}
 use Rattle.promise.proofs.PassedLaws.{passed}
 
 abbrev pub one : List ℕ

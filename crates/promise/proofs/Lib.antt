@@ -1,5 +1,6 @@
 pub mod SameLaws
 pub mod SameSaid
+pub mod RowLaws
 pub mod NamedLaws
 pub mod ListExample
 pub mod WritingExample

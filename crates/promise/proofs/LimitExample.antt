@@ -15,23 +15,23 @@ use Rattle.model.proofs.LoneTask.{start-lone}
 use Rattle.model.proofs.EachTick.{demands-each}
 use Rattle.table.specs.TableOf.{table-of}
 use Rattle.desk.specs.Questions.{verdict-asked}
-use Rattle.promise.specs.Tables.{U-over}
+use Rattle.promise.specs.Tables.{each-32769}
 use Rattle.promise.specs.Promises.{Overload-shown}
 use Rattle.promise.proofs.OverloadedLaws.{overloaded-shown}
-use Rattle.promise.proofs.LoneExample.{lone-bytes, lone-good, lone-judged, U-over-reads}
+use Rattle.promise.proofs.LoneExample.{lone-bytes, lone-good, lone-judged, each-32769-reads}
 
-over-due : (t : ℕ) → all-demands (table-of U-over) t ≡ (suc t - 65535) * 32769
-over-due = demands-each (lone-good U-over-reads) (U-over-reads .lone)
+over-due : (t : ℕ) → all-demands (table-of each-32769) t ≡ (suc t - 65535) * 32769
+over-due = demands-each (lone-good each-32769-reads) (each-32769-reads .lone)
 
-over-starts : (k : ℕ) → k < 16 → k < table-of U-over .tasks
-    → Meaning.Starts-at (table-of U-over .task k) 65536 (getD (replicate 16 0) k 0)
-over-starts zero few inside = start-lone (lone-good U-over-reads) (U-over-reads .lone) 65536
-over-starts (suc k) few inside = absurd (omega (arith, U-over-reads .lone .one-task))
+over-starts : (k : ℕ) → k < 16 → k < table-of each-32769 .tasks
+    → Meaning.Starts-at (table-of each-32769 .task k) 65536 (getD (replicate 16 0) k 0)
+over-starts zero few inside = start-lone (lone-good each-32769-reads) (each-32769-reads .lone) 65536
+over-starts (suc k) few inside = absurd (omega (arith, each-32769-reads .lone .one-task))
 
-over-means : Meaning.Overloaded horizon (table-of U-over) 65536 (negsuc 1) (replicate 16 0)
+over-means : Meaning.Overloaded horizon (table-of each-32769) 65536 (negsuc 1) (replicate 16 0)
 unfolding horizon
 over-means =
-    let table = table-of U-over in
+    let table = table-of each-32769 in
     record {
       from = lit≤ tt;
       within = lit≤ tt;
@@ -43,8 +43,8 @@ over-means =
       past = λ k few past. getD-replicate {A = ℕ} 16 k 0 0 few;
     }
 
-pub over-judged : verdict-asked U-over ≡ answered (overloaded 65536 (negsuc 1) (replicate 16 0))
-over-judged = lone-judged U-over-reads (overloaded 65536 (negsuc 1) (replicate 16 0)) over-means
+pub over-judged : verdict-asked each-32769 ≡ answered (overloaded 65536 (negsuc 1) (replicate 16 0))
+over-judged = lone-judged each-32769-reads (overloaded 65536 (negsuc 1) (replicate 16 0)) over-means
 
-pub over-promised : Overload-shown U-over 65536
-over-promised = overloaded-shown U-over (lone-bytes U-over-reads) over-judged
+pub over-promised : Overload-shown each-32769 65536
+over-promised = overloaded-shown each-32769 (lone-bytes each-32769-reads) over-judged

@@ -20,8 +20,8 @@ use Rattle.table.specs.WellFormed.{WellFormed}
 use Rattle.table.proofs.Exact.{read-good}
 use Rattle.table.proofs.TaskLaws.{well-proper}
 use Rattle.desk.specs.Questions.{verdict-asked}
-use Rattle.promise.specs.Tables.{U, U-longer, U-over, longest}
-use Rattle.promise.proofs.NamedLaws.{is-byte, are-bytes}
+use Rattle.promise.specs.Tables.{each-2, each-21846, each-32769, longest}
+use Rattle.promise.proofs.RowLaws.{is-byte, are-bytes}
 use Rattle.promise.proofs.JudgedLaws.{judged-rightly}
 
 -- the bytes are the table (e,d,p)
@@ -53,17 +53,17 @@ lone-so : {table : Table} {e d p : ℕ} → table .tasks ≡ 1 → table .task 0
     → table .task 0 .E 0 ≡ e → table .task 0 .D 0 ≡ d → table .task 0 .P 0 ≡ p → Lone table e d p
 lone-so tasks count E D P = record { one-task = tasks; one-frame = count; E-is = E; D-is = D; P-is = P }
 
-pub U-reads : Reads U 2 65535 1
-unfolding U is-byte every reading-of read-all read-on record-of records-before records-of task-of sum
-U-reads = reads-so tt refl (lone-so refl refl refl refl refl)
+pub each-2-reads : Reads each-2 2 65535 1
+unfolding each-2 is-byte every reading-of read-all read-on record-of records-before records-of task-of sum
+each-2-reads = reads-so tt refl (lone-so refl refl refl refl refl)
 
-pub U-longer-reads : Reads U-longer 21846 65535 1
-unfolding U-longer is-byte every reading-of read-all read-on record-of records-before records-of task-of sum
-U-longer-reads = reads-so tt refl (lone-so refl refl refl refl refl)
+pub each-21846-reads : Reads each-21846 21846 65535 1
+unfolding each-21846 is-byte every reading-of read-all read-on record-of records-before records-of task-of sum
+each-21846-reads = reads-so tt refl (lone-so refl refl refl refl refl)
 
-pub U-over-reads : Reads U-over 32769 65535 1
-unfolding U-over is-byte every reading-of read-all read-on record-of records-before records-of task-of sum
-U-over-reads = reads-so tt refl (lone-so refl refl refl refl refl)
+pub each-32769-reads : Reads each-32769 32769 65535 1
+unfolding each-32769 is-byte every reading-of read-all read-on record-of records-before records-of task-of sum
+each-32769-reads = reads-so tt refl (lone-so refl refl refl refl refl)
 
 pub longest-reads : Reads longest 65535 65535 65535
 unfolding longest is-byte every reading-of read-all read-on record-of records-before records-of task-of sum

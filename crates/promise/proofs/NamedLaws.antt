@@ -1,17 +1,15 @@
 -- Each named number is what the rules give: one computed test of the whole table, and one law that turns it into that.
 -- The verdict is computed by the walk that stops at the closing window, and carried over by its law.
 -- Assumes nothing.
-use mathlib.Core.Bool.{Bool, _&&_}
+use mathlib.Core.Bool.{Bool}
 use mathlib.Core.Path.{_≡_, refl, sym, _∙_, ap}
-use mathlib.Core.List.{List, [], _∷_}
-use Prim.Native.Nat.{ℕ, zero, suc, _<_}
-use native.Mathlib.Omega.{arith}
-use lib.Dec.{T, ltb, ltb→lt, lit<}
-use lib.ListN.{getD}
+use mathlib.Core.List.{List}
+use Prim.Native.Nat.{ℕ, _<_}
+use lib.Dec.{T, lit<}
 use Rattle.laws.specs.Sums.{sum, greatest, tabulate}
 use Rattle.laws.specs.Search.{least-from, first-least, up-to-last}
 use Rattle.laws.specs.Reader.{read-on, read-all}
-use Rattle.laws.proofs.Every.{both-left, both-right, every, every-at}
+use Rattle.laws.proofs.Every.{every}
 use Rattle.model.specs.Demand.{frame, offset, counted, lowest, all-demands, all-work}
 use Rattle.model.specs.Task as Table
 use Rattle.model.specs.Verdict.{horizon, closes, overloads, starts, overloaded-at, fits-at, Verdict, verdict}
@@ -41,6 +39,7 @@ use Rattle.promise.specs.Tables.{A, B, B-list, F, K7-task, four, twenty}
 use Rattle.promise.specs.Asked.{Question, demand-of, verdict-on, replay-with, overload-into, response-to, first-values, left-by, Said, values, said, Row, Is-said}
 use Rattle.promise.specs.Named.{named, Named-right}
 use Rattle.promise.proofs.SameLaws.{same-int, same-list, same-verdict, same-replay, same-response, same-answer, same-written}
+use Rattle.promise.proofs.RowLaws.{is-byte, are-bytes, right, rows-right}
 use Rattle.promise.proofs.SameSaid.{same-left, same-said, same-said-is}
 
 -- the overload list, where the walk gives the verdict
@@ -57,26 +56,14 @@ quick s (overload-into buffer place) = left-by buffer place (quick-list s buffer
 quick s (response-to task frame) = response-asked s task frame
 quick s (first-values many task frame) = values s many task frame
 
-unfoldable pub is-byte : ℕ → Bool
-is-byte x = ltb x 256
-
-bytes-are : (s : List ℕ) → T (every is-byte s) → (i : ℕ) → getD s i 0 < 256
-unfolding every is-byte
-bytes-are [] h i = omega arith
-bytes-are (x ∷ s) h zero = ltb→lt x 256 (both-left (is-byte x) (every is-byte s) h)
-bytes-are (x ∷ s) h (suc i) = bytes-are s (both-right (is-byte x) (every is-byte s) h) i
-
-pub are-bytes : (s : List ℕ) → T (every is-byte s) → Bytes s
-are-bytes s all i = record { fits = bytes-are s all i }
-
-module _ (s : List ℕ) (bytes : T (every is-byte s)) where
+module _ (s : List ℕ) (bytes : Bytes s) where
   -- of a table that was read, whatever is asked of its verdict may be asked of the walk
   walked : {A : Type 0} (ask : Table.Table → Verdict → Answer A)
       → on-table s (λ table. ask table (walk table horizon 1)) ≡ on-table s (λ table. ask table (verdict horizon table))
   walked {A} ask =
       table-told s (λ table. ask table (verdict horizon table)) (λ said. on-table s by-steps ≡ said)
       (λ number index bad. table-refused s by-steps bad)
-      (λ well. table-asked s by-steps well ∙ rw (walk-is (well-proper (are-bytes s bytes) well) horizon))
+      (λ well. table-asked s by-steps well ∙ rw (walk-is (well-proper bytes well) horizon))
     where
       by-steps : Table.Table → Answer A
       by-steps table = ask table (walk table horizon 1)
@@ -95,17 +82,13 @@ module _ (s : List ℕ) (bytes : T (every is-byte s)) where
 by-walk : Row → Bool
 by-walk row = same-said (row .question) (quick (row .bytes) (row .question)) (row .says)
 
-right : Row → Bool
-right row = every is-byte (row .bytes) && by-walk row
+walk-is-said : (row : Row) → Bytes (row .bytes) → T (by-walk row) → Is-said row
+unfolding by-walk
+walk-is-said row bytes same =
+    sym (quick-is (row .bytes) bytes (row .question))
+    ∙ same-said-is (row .question) (quick (row .bytes) (row .question)) (row .says) same
 
-right-is : (row : Row) → T (right row) → Is-said row
-unfolding right by-walk
-right-is row h =
-    sym (quick-is (row .bytes) (both-left (every is-byte (row .bytes)) (by-walk row) h) (row .question))
-    ∙ same-said-is (row .question) (quick (row .bytes) (row .question)) (row .says)
-    (both-right (every is-byte (row .bytes)) (by-walk row) h)
-
-all-right : T (every right named)
+all-right : T (every (right (λ row. row .bytes) by-walk) named)
 unfolding named A B right by-walk quick is-byte every same-said same-answer same-verdict same-list same-int
     demand-asked reading-of read-all read-on record-of records-before records-of task-of horizon walk overloads closes
     overloaded-at fits-at starts lowest all-demands all-work counted offset frame sum greatest tabulate
@@ -120,7 +103,7 @@ all-right = tt
 
 -- K1 to K9, and the list of four requests
 pub named-right : Named-right
-named-right i below other = right-is (getD named i other) (every-at right named other all-right i below)
+named-right = rows-right (λ row. row .bytes) by-walk Is-said walk-is-said named all-right
 
 -- what stands past the end of the table, for those who cite one of its rows
 pub no-row : Row

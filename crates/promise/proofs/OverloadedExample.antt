@@ -48,7 +48,7 @@ its-own = machine-serves B-jobs (sooner B-jobs)
 
 pub own-leaves : B-no-schedule its-own .job ≡ 1
 unfolding A B B-list record-of records-before records-of task-of entry-of sum units left-at pick sooner
-own-leaves = which (B-no-schedule its-own .job) (B-no-schedule its-own .inside) (B-no-schedule its-own .short)
+own-leaves = let left = B-no-schedule its-own in which (left .job) (left .inside) (left .short)
   where
     which : (k : ℕ) → k < B-jobs .count → units its-own k (B-jobs .arrive k) (B-jobs .due k) < B-jobs .amount k → k ≡ 1
     which zero inside short = absurd (omega arith)
@@ -62,7 +62,8 @@ other-first (suc t) = at 0
 
 pub other-leaves : B-no-schedule other-first .job ≡ 0
 unfolding A B B-list record-of records-before records-of task-of entry-of sum units
-other-leaves = which (B-no-schedule other-first .job) (B-no-schedule other-first .inside) (B-no-schedule other-first .short)
+other-leaves =
+    let left = B-no-schedule other-first in which (left .job) (left .inside) (left .short)
   where
     which : (k : ℕ) → k < B-jobs .count → units other-first k (B-jobs .arrive k) (B-jobs .due k) < B-jobs .amount k
         → k ≡ 0

@@ -13,9 +13,9 @@ use Rattle.model.specs.Answer.{answered}
 use Rattle.model.proofs.EachTick.{undecided-each}
 use Rattle.table.specs.TableOf.{table-of}
 use Rattle.desk.specs.Questions.{verdict-asked}
-use Rattle.promise.specs.Tables.{U, U-longer}
+use Rattle.promise.specs.Tables.{each-2, each-21846}
 use Rattle.promise.proofs.JudgedLaws.{judged-rightly}
-use Rattle.promise.proofs.LoneExample.{Reads, lone-bytes, lone-well, lone-good, U-reads, U-longer-reads}
+use Rattle.promise.proofs.LoneExample.{Reads, lone-bytes, lone-well, lone-good, each-2-reads, each-21846-reads}
 
 -- before 65,535 nothing is due, e is by then, and twice e by 65,536
 abbrev Few-due : ℕ → Type 0
@@ -30,21 +30,21 @@ module _ {s : List ℕ} {e : ℕ} (reads : Reads s e 65535 1) (two : 2 ≤ e) (f
 
 -- ---- "(2,65535,1) is undecided"
 
-U-few : Few-due 2
+each-2-few : Few-due 2
 unfolding horizon
-U-few t within = omega arith
+each-2-few t within = omega arith
 
-pub U-undecided : Undecided horizon (table-of U)
-U-undecided = each-undecided U-reads (lit≤ tt) U-few
+pub each-2-undecided : Undecided horizon (table-of each-2)
+each-2-undecided = each-undecided each-2-reads (lit≤ tt) each-2-few
 
-pub U-judged : verdict-asked U ≡ answered undecided
-U-judged = each-judged U-reads (lit≤ tt) U-few
+pub each-2-judged : verdict-asked each-2 ≡ answered undecided
+each-2-judged = each-judged each-2-reads (lit≤ tt) each-2-few
 
 -- ---- "(21846,65535,1) is undecided": three requests would be too much, but the third is due by 65,537
 
-U-longer-few : Few-due 21846
+each-21846-few : Few-due 21846
 unfolding horizon
-U-longer-few t within = omega arith
+each-21846-few t within = omega arith
 
-pub U-longer-judged : verdict-asked U-longer ≡ answered undecided
-U-longer-judged = each-judged U-longer-reads (lit≤ tt) U-longer-few
+pub each-21846-judged : verdict-asked each-21846 ≡ answered undecided
+each-21846-judged = each-judged each-21846-reads (lit≤ tt) each-21846-few

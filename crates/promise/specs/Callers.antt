@@ -11,7 +11,6 @@ use lib.ListN.{take, drop}
 use Rattle.model.specs.Verdict.{horizon}
 use Rattle.model.specs.Meaning.{Undecided}
 use Rattle.model.specs.Request.{Legal}
-use Rattle.table.specs.Bytes.{Bytes}
 use Rattle.table.specs.TableOf.{table-of}
 use Rattle.table.specs.declared.reader.Refusal.{Refusal}
 use Rattle.table.specs.Refusals as Table
@@ -71,7 +70,3 @@ pub record Callers (s : Slice) : Type 0 where
   pub never-met : (buffer : Slice) (place n : ℕ) (after : List ℕ) → Writes s buffer place (written.Bytes n) after
       → (list : Slice) → now list ≡ take n (drop place after)
       → (e : Ending) → Replays s list e → (tick : ℕ) → e ≡ ending.Is (replayed.AllMet tick) → ⊥
-
--- of every slice: `Bytes` is what a `&[u8]` brings with it
-abbrev pub Relied-on : Type 0
-Relied-on = (s : Slice) → Bytes (now s) → Callers s

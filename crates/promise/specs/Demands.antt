@@ -1,9 +1,10 @@
--- The three demands, in the user's order, and the promise that they are kept of any bytes. What each part says is in
--- Refusals, Numbers, Bench and Promises.
+-- The three demands, in the user's order, and the promise that they are kept. What each part says is in Refusals,
+-- Numbers, Bench, Promises, OneAnswer, Named and Callers.
 -- Assumes nothing.
 use mathlib.Core.Path.{_≡_}
 use mathlib.Core.List.{List}
 use Prim.Native.Nat.{ℕ}
+use denote.Ref.{now}
 use lib.IntN.{ℤ}
 use Rattle.model.specs.Verdict.{overloaded, fits}
 use Rattle.model.specs.Answer.{answered}
@@ -15,6 +16,9 @@ use Rattle.promise.specs.Refusals.{Exact-refusals}
 use Rattle.promise.specs.Bench.{Ticks-rightly}
 use Rattle.promise.specs.Numbers.{Numbers}
 use Rattle.promise.specs.Promises.{Passed, Overload-shown, Judged-rightly}
+use Rattle.promise.specs.OneAnswer.{One-answer-each}
+use Rattle.promise.specs.Named.{Named-right}
+use Rattle.promise.specs.Callers.{Slice, Callers}
 
 pub record Demands (s : List ℕ) : Type 0 where
   -- 1. "Any bytes may be handed in .. Each gets an answer or one numbered refusal, exactly when the list of refusals
@@ -29,6 +33,12 @@ pub record Demands (s : List ℕ) : Type 0 where
       → Overload-shown s t
   pub judged : WellFormed s → Judged-rightly s
 
--- the promise: `Bytes` is all that is assumed, that each number is below 256
-abbrev pub Promised : Type 0
-Promised = (s : List ℕ) → Bytes s → Demands s
+-- the promise. `Bytes` is all that is assumed, that each number is below 256, which a `&[u8]` brings with it
+pub record Promised : Type 0 where
+  pub demands : (s : List ℕ) → Bytes s → Demands s
+  -- "Every part of every answer is settled", and what each function of the code answers is what the demands speak of
+  pub settled : One-answer-each
+  -- K1 to K9
+  pub named : Named-right
+  -- the third demand from the contracts, for a caller of the code
+  pub callers : (s : Slice) → Bytes (now s) → Callers s

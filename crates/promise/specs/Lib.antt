@@ -2,10 +2,10 @@ pub mod Refusals
 pub mod Bench
 pub mod Numbers
 pub mod Promises
-pub mod Demands
 pub mod OneAnswer
 pub mod Callers
 pub mod Tables
 pub mod Asked
 pub mod Named
+pub mod Demands
 pub mod Cases

@@ -37,16 +37,16 @@ K7-task = rec 0 3 2 2 2 ++ rec 0 3 1 20 1 ++ rec 0 3 2 2 10
 abbrev pub each-tick : ℕ → ℕ → List ℕ
 each-tick low high = 0 ∷ 1 ∷ low ∷ high ∷ 255 ∷ 255 ∷ 1 ∷ 0 ∷ []
 
-unfoldable pub U : List ℕ
-U = each-tick 2 0
+unfoldable pub each-2 : List ℕ
+each-2 = each-tick 2 0
 
 -- "(21846,65535,1) is undecided"
-unfoldable pub U-longer : List ℕ
-U-longer = each-tick 86 85
+unfoldable pub each-21846 : List ℕ
+each-21846 = each-tick 86 85
 
 -- "(32769,65535,1) is overloaded at 65,536, margin -2."
-unfoldable pub U-over : List ℕ
-U-over = each-tick 1 128
+unfoldable pub each-32769 : List ℕ
+each-32769 = each-tick 1 128
 
 -- "(65535,65535,65535) fits: window 65,535, margin 0 there."
 unfoldable pub longest : List ℕ

@@ -17,18 +17,11 @@ sum-raised zero k x f g inside raised others = absurd (omega arith)
 sum-raised (suc n) k x f g inside raised others =
     elim (lt-or-last k n inside) [
       | inl less ↦
-          omega (
-            arith,
-            sum-raised n k x f g less raised (λ i below. others i (omega arith)),
-            others n (omega arith) (λ here. omega arith),
-          )
+          let so-far = sum-raised n k x f g less raised (λ i below. others i (omega arith)) in
+          omega (arith, others n (omega arith) (λ here. omega arith))
       | inr last ↦
-          omega (
-            arith,
-            sum-cong n g f (λ i below. others i (omega arith) (λ here. omega arith)),
-            ap f last,
-            ap g last,
-          )
+          let before = sum-cong n g f (λ i below. others i (omega arith) (λ here. omega arith)) in
+          omega (arith, ap f last, ap g last)
     ]
 
 -- two sums are equal only if each part is, where no part is the larger in the one

@@ -71,20 +71,18 @@ module _ {task : Task} {reach : ℕ → ℕ} (moves : Moves task reach) (a b : �
       → asked task reach s m arrive a b ≤ counted task reach (b - x) s
   late zero s x arrive inside run first = omega (arith, asked-none s arrive)
   late (suc m) s x arrive inside run first =
+      let gap = ap (task .P) (frame-none task s inside) in
+      let rest = late m (frame task s 1) (arrive 0 + task .P s) (λ n. arrive (suc n)) (frame-lt task (moves .some) s 1)
+      (run-on s m arrive run) (λ some. omega (arith, run 0 (omega arith))) in
+      let less : b - (arrive 0 + task .P s) ≡ b - arrive 0 - task .P s = omega arith in
       omega (
         arith,
         asked-on s m arrive inside,
         one-most (arrive 0) s,
-        late m (frame task s 1) (arrive 0 + task .P s) (λ n. arrive (suc n)) (frame-lt task (moves .some) s 1)
-            (run-on s m arrive run)
-            (λ some. omega (arith, run 0 (omega arith), ap (task .P) (frame-none task s inside))),
-        ap (λ (u : ℕ). counted task reach u (frame task s 1)) (less (arrive 0) (task .P s)),
+        ap (λ (u : ℕ). counted task reach u (frame task s 1)) less,
         counted-on moves (b - arrive 0) s inside,
         counted-mono task reach (b - arrive 0) (b - x) s (omega (arith, first (omega arith))),
       )
-    where
-      less : (x p : ℕ) → b - (x + p) ≡ b - x - p
-      less x p = omega arith
 
   pub asked-most : (m s : ℕ) (arrive : ℕ → ℕ) → s < task .count → Run task s m arrive
       → asked task reach s m arrive a b ≤ most task reach (b - a)

@@ -47,6 +47,16 @@ same-list-is (x ∷ l) (y ∷ m) h =
     ap₂ _∷_ (eqb→eq x y (both-left (eqb x y) (same-list l m) h))
     (same-list-is l m (both-right (eqb x y) (same-list l m) h))
 
+-- three parts that are the same, each by its test
+pub same-three : {A B C D : Type 0} (put : A → B → C → D) (p q r : Bool) {a x : A} {b y : B} {c z : C}
+    → (T p → a ≡ x) → (T q → b ≡ y) → (T r → c ≡ z) → T (p && (q && r)) → put a b c ≡ put x y z
+same-three put p q r first second third h =
+    let rest = both-right p (q && r) h in
+    let one = first (both-left p (q && r) h) in
+    let two = second (both-left q r rest) in
+    let three = third (both-right q r rest) in
+    rw (one, two, three)
+
 unfoldable pub same-verdict : Verdict → Verdict → Bool
 same-verdict (overloaded t m l) (overloaded u n k) = eqb t u && (same-int m n && same-list l k)
 same-verdict (fits w m t) (fits v n u) = eqb w v && (same-int m n && eqb t u)
@@ -61,17 +71,9 @@ same-verdict undecided (fits v n u) = false
 pub same-verdict-is : (a b : Verdict) → T (same-verdict a b) → a ≡ b
 unfolding same-verdict
 same-verdict-is (overloaded t m l) (overloaded u n k) h =
-    let rest = both-right (eqb t u) (same-int m n && same-list l k) h in
-    let t-is : t ≡ u = eqb→eq t u (both-left (eqb t u) (same-int m n && same-list l k) h) in
-    let m-is : m ≡ n = same-int-is m n (both-left (same-int m n) (same-list l k) rest) in
-    let l-is : l ≡ k = same-list-is l k (both-right (same-int m n) (same-list l k) rest) in
-    rw (t-is, m-is, l-is)
+    same-three overloaded (eqb t u) (same-int m n) (same-list l k) (eqb→eq t u) (same-int-is m n) (same-list-is l k) h
 same-verdict-is (fits w m t) (fits v n u) h =
-    let rest = both-right (eqb w v) (same-int m n && eqb t u) h in
-    let w-is : w ≡ v = eqb→eq w v (both-left (eqb w v) (same-int m n && eqb t u) h) in
-    let m-is : m ≡ n = same-int-is m n (both-left (same-int m n) (eqb t u) rest) in
-    let t-is : t ≡ u = eqb→eq t u (both-right (same-int m n) (eqb t u) rest) in
-    rw (w-is, m-is, t-is)
+    same-three fits (eqb w v) (same-int m n) (eqb t u) (eqb→eq w v) (same-int-is m n) (eqb→eq t u) h
 same-verdict-is undecided undecided h = refl
 same-verdict-is (overloaded t m l) (fits v n u) h = absurd h
 same-verdict-is (overloaded t m l) undecided h = absurd h

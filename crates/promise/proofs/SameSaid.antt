@@ -3,9 +3,8 @@
 use mathlib.Core.Bool.{Bool, _&&_}
 use mathlib.Core.Path.{_≡_}
 use lib.Dec.{T, eqb, eqb→eq}
-use Rattle.laws.proofs.Every.{both-left, both-right}
 use Rattle.promise.specs.Asked.{Question, demand-of, verdict-on, replay-with, overload-into, response-to, first-values, Leaves, Said}
-use Rattle.promise.proofs.SameLaws.{same-list, same-list-is, same-verdict, same-verdict-is, same-replay, same-replay-is, same-response, same-response-is, same-answer, same-answer-is, same-written, same-written-is}
+use Rattle.promise.proofs.SameLaws.{same-three, same-list, same-list-is, same-verdict, same-verdict-is, same-replay, same-replay-is, same-response, same-response-is, same-answer, same-answer-is, same-written, same-written-is}
 
 unfoldable pub same-left : Leaves → Leaves → Bool
 same-left a b =
@@ -14,15 +13,11 @@ same-left a b =
 
 same-left-is : (a b : Leaves) → T (same-left a b) → a ≡ b
 unfolding same-left
-same-left-is a b h =
-    let answers = same-written (a .answer) (b .answer) in
-    let lists = same-answer same-list (a .wrote) (b .wrote) in
-    let buffers = same-list (a .buffer) (b .buffer) in
-    let rest = both-right answers (lists && buffers) h in
-    let answer-is : a .answer ≡ b .answer = same-written-is _ _ (both-left answers (lists && buffers) h) in
-    let wrote-is : a .wrote ≡ b .wrote = same-answer-is same-list same-list-is _ _ (both-left lists buffers rest) in
-    let buffer-is : a .buffer ≡ b .buffer = same-list-is _ _ (both-right lists buffers rest) in
-    rw (answer-is, wrote-is, buffer-is)
+same-left-is a b =
+    same-three (λ answer wrote buffer. record { answer = answer; wrote = wrote; buffer = buffer })
+    (same-written (a .answer) (b .answer)) (same-answer same-list (a .wrote) (b .wrote))
+    (same-list (a .buffer) (b .buffer)) (same-written-is (a .answer) (b .answer))
+    (same-answer-is same-list same-list-is (a .wrote) (b .wrote)) (same-list-is (a .buffer) (b .buffer))
 
 unfoldable pub same-said : (q : Question) → Said q → Said q → Bool
 same-said (demand-of task t) = same-answer eqb

@@ -1,5 +1,6 @@
 -- What a machine does with jobs, tick by tick, in words that any machine can be held to; which classes of jobs it
--- prefers; and the busy interval of a class. Nothing here knows a table, an order or where the amounts come from.
+-- prefers; and the busy interval of a class. Nothing here knows a table or where the amounts come from, and any order
+-- will do.
 -- Assumes nothing.
 use mathlib.Core.Bool.{Bool, true, false, _&&_}
 use mathlib.Core.Path.{_≡_}
@@ -48,7 +49,7 @@ abbrev pub Prefers : {jobs : Jobs} → Service jobs → Class → ℕ → Type 0
 Prefers {jobs} service class d =
     (t k : ℕ) → t < d → class k ≡ true → Pending jobs t (service .left t) k → Serves class (service .serves t)
 
--- the order never puts a job of the class behind one that is not: what no job of the class goes before is of the class
+-- every job of the class goes before every one that is not: what one of the class does not go before is of the class
 abbrev pub Leads : Order → Class → Type 0
 Leads before class = (i j : ℕ) → class j ≡ true → before j i ≡ false → class i ≡ true
 

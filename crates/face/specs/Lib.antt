@@ -1,0 +1,4 @@
+pub mod Flat
+pub mod FlatVerdict
+pub mod FlatList
+pub mod State

@@ -1,0 +1,54 @@
+-- The bench's state laid flat, and a tick of it, for every state that a caller may hand in.
+-- Assumes nothing.
+use mathlib.Core.Bool.{cond}
+use Prim.Native.Nat.{ℕ}
+use lib.Dec.{eqb}
+use Rattle.bench.specs.declared.state.Bench.{Bench}
+use Rattle.bench.specs.declared.state.Outcome.{Outcome}
+use Rattle.bench.specs.declared.state.Outcome.the-variants.{Running, Missed, AllMet}
+use Rattle.bench.specs.Rule.{tick-of}
+use Rattle.desk.specs.declared.Loaded as desk
+use Rattle.face.specs.declared.state.State.{State}
+use Rattle.face.specs.declared.state.Loaded.{Loaded}
+use Rattle.face.specs.FlatList.{flat-checked}
+
+-- 0 running, 1 missed, 2 all met
+abbrev pub outcome-number : Outcome → ℕ
+outcome-number Running = 0
+outcome-number (Missed index) = 1
+outcome-number AllMet = 2
+
+abbrev pub missed-record : Outcome → ℕ
+missed-record Running = 0
+missed-record (Missed index) = index
+missed-record AllMet = 0
+
+abbrev pub flat-bench : Bench → State
+flat-bench b =
+    record {
+      tick = b .tick;
+      outcome = outcome-number (b .outcome);
+      index = missed-record (b .outcome);
+      left = b .left;
+      due = b .due;
+      arrive = b .arrive;
+      task = b .task;
+    }
+
+-- the bench of a state that has not stopped
+abbrev pub running : State → Bench
+running s =
+    record { tick = s .tick; left = s .left; due = s .due; arrive = s .arrive; task = s .task; outcome = Running }
+
+-- "Each tick takes a bench state and hands back the next"; "A stopped bench .. comes back from a tick unchanged", and
+-- every outcome but 0 is a bench that has stopped
+abbrev pub flat-tick : State → State
+flat-tick s = cond (eqb (s .outcome) 0) (flat-bench (tick-of (running s))) s
+
+abbrev pub flat-loaded : desk.Loaded → Loaded
+flat-loaded l =
+    record {
+      refusal = flat-checked (l .check) .refusal;
+      records = flat-checked (l .check) .records;
+      state = flat-bench (l .bench);
+    }

@@ -1,0 +1,88 @@
+// The answers of the boundary, laid flat: numbers and arrays of numbers only, in C's layout. Each stands in
+// limpidorsa.h, field by field. Where `refusal.number` is not 0 the question was refused, and every other field is 0.
+
+// "Every refusal is a refusal number with the record index." 0 and 0 where nothing was refused.
+#[repr(C)]
+pub struct Refusal {
+    pub number: u8,
+    pub index: usize,
+}
+
+#[repr(C)]
+pub struct Shape {
+    pub refusal: Refusal,
+    pub tasks: usize,
+    pub records: usize,
+}
+
+// A demand or a work.
+#[repr(C)]
+pub struct Amount {
+    pub refusal: Refusal,
+    pub amount: u64,
+}
+
+// Below zero where more is asked than there is time.
+#[repr(C)]
+pub struct Margin {
+    pub refusal: Refusal,
+    pub margin: i64,
+}
+
+// The closing window; `window` is 0 where no window closes.
+#[repr(C)]
+pub struct Window {
+    pub refusal: Refusal,
+    pub closes: bool,
+    pub window: u64,
+}
+
+// What `verdict` is in an answer; it is 0 in a refusal.
+pub const OVERLOADED: u8 = 1;
+
+pub const FITS: u8 = 2;
+
+pub const UNDECIDED: u8 = 3;
+
+// Overloaded: `t`, its `margin`, the sixteen `starts`. Fits: `window`, the least `margin` and the first `t` that has it.
+#[repr(C)]
+pub struct Verdict {
+    pub refusal: Refusal,
+    pub verdict: u8,
+    pub t: u64,
+    pub margin: i64,
+    pub window: u64,
+    pub starts: [u8; 16],
+}
+
+// On time: the value that repeats, and its round. Late: the first value that passes D, and its round.
+#[repr(C)]
+pub struct Response {
+    pub refusal: Refusal,
+    pub late: bool,
+    pub value: u64,
+    pub round: u64,
+}
+
+// How many bytes were written from the place on.
+#[repr(C)]
+pub struct Written {
+    pub refusal: Refusal,
+    pub bytes: usize,
+}
+
+// How many records a legal list has.
+#[repr(C)]
+pub struct Listed {
+    pub refusal: Refusal,
+    pub records: usize,
+}
+
+// A miss with its tick and its record index, or *all met* with the tick after the last unit and `index` 0.
+#[repr(C)]
+pub struct Ending {
+    pub refusal: Refusal,
+    pub missed: bool,
+    pub tick: u32,
+    pub index: usize,
+}

@@ -1,0 +1,2 @@
+//! The desk at the command line: `boundary` calls the proved library.
+pub mod boundary;

@@ -4,7 +4,7 @@
 -- Assumes nothing.
 use mathlib.Core.Bool.{true, false}
 use lib.IntN.{pos}
-use Rattle.table.specs.declared.reader.Refusal as table
+use Rattle.table.specs.declared.reader.Refusal.{Refusal}
 use Rattle.table.specs.declared.reader.Reading.{Reading}
 use Rattle.table.specs.declared.reader.Reading.the-variants as reading
 use Rattle.verdict.specs.declared.window.Closing.{Closing}
@@ -15,7 +15,6 @@ use Rattle.desk.specs.declared.Spare.{Spare}
 use Rattle.desk.specs.declared.Spare.the-variants as spare
 use Rattle.desk.specs.declared.Window as desk-window
 use Rattle.desk.specs.declared.Window.the-variants as window
-use Rattle.face.specs.declared.answers.Refusal.{Refusal}
 use Rattle.face.specs.declared.answers.Shape.{Shape}
 use Rattle.face.specs.declared.answers.Amount.{Amount}
 use Rattle.face.specs.declared.answers.Margin.{Margin}
@@ -25,26 +24,22 @@ use Rattle.face.specs.declared.answers.Window.{Window}
 abbrev pub none : Refusal
 none = record { number = 0; index = 0 }
 
--- "Every refusal is a refusal number with the record index"
-abbrev pub flat-refusal : table.Refusal → Refusal
-flat-refusal no = record { number = no .number; index = no .index }
-
-abbrev pub flat-reading : Reading → Shape
+unfoldable pub flat-reading : Reading → Shape
 flat-reading (reading.Table shape) = record { refusal = none; tasks = shape .tasks; records = shape .records }
-flat-reading (reading.Refused x) = record { refusal = flat-refusal x; tasks = 0; records = 0 }
+flat-reading (reading.Refused x) = record { refusal = x; tasks = 0; records = 0 }
 
-abbrev pub flat-amount : desk-amount.Amount → Amount
+unfoldable pub flat-amount : desk-amount.Amount → Amount
 flat-amount (amount.Is n) = record { refusal = none; amount = n }
-flat-amount (amount.Refused x) = record { refusal = flat-refusal x; amount = 0 }
+flat-amount (amount.Refused x) = record { refusal = x; amount = 0 }
 
-abbrev pub flat-margin : Spare → Margin
+unfoldable pub flat-margin : Spare → Margin
 flat-margin (spare.Is m) = record { refusal = none; margin = m }
-flat-margin (spare.Refused x) = record { refusal = flat-refusal x; margin = pos 0 }
+flat-margin (spare.Refused x) = record { refusal = x; margin = pos 0 }
 
-abbrev pub flat-closing : Closing → Window
+unfoldable pub flat-closing : Closing → Window
 flat-closing (At w) = record { refusal = none; closes = true; window = w }
 flat-closing Never = record { refusal = none; closes = false; window = 0 }
 
-abbrev pub flat-window : desk-window.Window → Window
+unfoldable pub flat-window : desk-window.Window → Window
 flat-window (window.Is closing) = flat-closing closing
-flat-window (window.Refused x) = record { refusal = flat-refusal x; closes = false; window = 0 }
+flat-window (window.Refused x) = record { refusal = x; closes = false; window = 0 }

@@ -17,23 +17,23 @@ use Rattle.face.specs.declared.answers.Ending.{Ending}
 use mathlib.Core.Path.{_≡_}
 use Rattle.model.specs.Answer.{Answer}
 use Rattle.overload.specs.Place.{written-of, buffer-after}
-use Rattle.face.specs.Flat.{none, flat-refusal}
+use Rattle.face.specs.Flat.{none}
 
-abbrev pub flat-written : write.Written → Written
+unfoldable pub flat-written : write.Written → Written
 flat-written (written.Bytes n) = record { refusal = none; bytes = n }
-flat-written (written.Refused x) = record { refusal = flat-refusal x; bytes = 0 }
+flat-written (written.Refused x) = record { refusal = x; bytes = 0 }
 
-abbrev pub flat-checked : Checked → Listed
+unfoldable pub flat-checked : Checked → Listed
 flat-checked (checked.Legal n) = record { refusal = none; records = n }
-flat-checked (checked.Refused x) = record { refusal = flat-refusal x; records = 0 }
+flat-checked (checked.Refused x) = record { refusal = x; records = 0 }
 
-abbrev pub flat-replayed : Replayed → Ending
+unfoldable pub flat-replayed : Replayed → Ending
 flat-replayed (Missed tick index) = record { refusal = none; missed = true; tick = tick; index = index }
 flat-replayed (AllMet tick) = record { refusal = none; missed = false; tick = tick; index = 0 }
 
-abbrev pub flat-ending : desk-ending.Ending → Ending
+unfoldable pub flat-ending : desk-ending.Ending → Ending
 flat-ending (ending.Is r) = flat-replayed r
-flat-ending (ending.Refused x) = record { refusal = flat-refusal x; missed = false; tick = 0; index = 0 }
+flat-ending (ending.Refused x) = record { refusal = x; missed = false; tick = 0; index = 0 }
 
 -- what the writer answers and leaves, where `said` is what it has to write
 pub record Flat-wrote (buffer : List ℕ) (place : ℕ) (said : Answer (List ℕ)) (r : Written) (after : List ℕ) : Type 0 where

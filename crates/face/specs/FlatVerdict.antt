@@ -15,10 +15,10 @@ use Rattle.desk.specs.declared.Reply.{Reply}
 use Rattle.desk.specs.declared.Reply.the-variants as reply
 use Rattle.face.specs.declared.answers.Verdict.{Verdict}
 use Rattle.face.specs.declared.answers.Response.{Response}
-use Rattle.face.specs.Flat.{none, flat-refusal}
+use Rattle.face.specs.Flat.{none}
 
 -- 1 overloaded, 2 fits, 3 undecided
-abbrev pub flat-verdict : verdict.Verdict → List ℕ → Verdict
+unfoldable pub flat-verdict : verdict.Verdict → List ℕ → Verdict
 flat-verdict (Overloaded t m) starts =
     record { refusal = none; verdict = 1; t = t; margin = m; window = 0; starts = starts }
 flat-verdict (Fits w m t) starts =
@@ -26,18 +26,18 @@ flat-verdict (Fits w m t) starts =
 flat-verdict Undecided starts =
     record { refusal = none; verdict = 3; t = 0; margin = pos 0; window = 0; starts = starts }
 
-abbrev pub flat-judgement : Judgement → List ℕ → Verdict
+unfoldable pub flat-judgement : Judgement → List ℕ → Verdict
 flat-judgement (judgement.Is v) starts = flat-verdict v starts
 flat-judgement (judgement.Refused x) starts =
-    record { refusal = flat-refusal x; verdict = 0; t = 0; margin = pos 0; window = 0; starts = starts }
+    record { refusal = x; verdict = 0; t = 0; margin = pos 0; window = 0; starts = starts }
 
-abbrev pub flat-judged : Judged → Verdict
+unfoldable pub flat-judged : Judged → Verdict
 flat-judged j = flat-judgement (j .judgement) (j .starts)
 
-abbrev pub flat-response : rounds.Response → Response
+unfoldable pub flat-response : rounds.Response → Response
 flat-response (OnTime value rounds) = record { refusal = none; late = false; value = value; round = rounds }
 flat-response (Late value round) = record { refusal = none; late = true; value = value; round = round }
 
-abbrev pub flat-reply : Reply → Response
+unfoldable pub flat-reply : Reply → Response
 flat-reply (reply.Is r) = flat-response r
-flat-reply (reply.Refused x) = record { refusal = flat-refusal x; late = false; value = 0; round = 0 }
+flat-reply (reply.Refused x) = record { refusal = x; late = false; value = 0; round = 0 }

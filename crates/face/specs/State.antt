@@ -23,7 +23,7 @@ missed-record Running = 0
 missed-record (Missed index) = index
 missed-record AllMet = 0
 
-abbrev pub flat-bench : Bench → State
+unfoldable pub flat-bench : Bench → State
 flat-bench b =
     record {
       tick = b .tick;
@@ -42,10 +42,10 @@ running s =
 
 -- "Each tick takes a bench state and hands back the next"; "A stopped bench .. comes back from a tick unchanged", and
 -- every outcome but 0 is a bench that has stopped
-abbrev pub flat-tick : State → State
+unfoldable pub flat-tick : State → State
 flat-tick s = cond (eqb (s .outcome) 0) (flat-bench (tick-of (running s))) s
 
-abbrev pub flat-loaded : desk.Loaded → Loaded
+unfoldable pub flat-loaded : desk.Loaded → Loaded
 flat-loaded l =
     record {
       refusal = flat-checked (l .check) .refusal;

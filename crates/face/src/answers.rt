@@ -1,12 +1,12 @@
 // The answers of the boundary, laid flat: numbers and arrays of numbers only, in C's layout. Each stands in
 // limpidorsa.h, field by field. Where `refusal.number` is not 0 the question was refused, and every other field is 0.
+use table::reader::Refusal;
 
-// "Every refusal is a refusal number with the record index." 0 and 0 where nothing was refused.
-#[repr(C)]
-pub struct Refusal {
-    pub number: u8,
-    pub index: usize,
-}
+// Nothing was refused: no refusal has the number 0.
+pub const NONE: Refusal = Refusal {
+    number: 0,
+    index: 0,
+};
 
 #[repr(C)]
 pub struct Shape {

@@ -4,8 +4,8 @@ use crate::answers::Ending;
 use crate::answers::FITS;
 use crate::answers::Listed;
 use crate::answers::Margin;
+use crate::answers::NONE;
 use crate::answers::OVERLOADED;
-use crate::answers::Refusal;
 use crate::answers::Response;
 use crate::answers::Shape;
 use crate::answers::UNDECIDED;
@@ -21,40 +21,21 @@ use requests::reader::Checked;
 use table::reader::Reading;
 use verdict::window::Closing;
 ghost use mathlib.Core.Path.{_≡_};
-ghost use Rattle.face.specs.Flat.{none, flat-refusal, flat-reading, flat-amount, flat-margin, flat-closing, flat-window};
+ghost use Rattle.face.specs.Flat.{flat-reading, flat-amount, flat-margin, flat-closing, flat-window};
 ghost use Rattle.face.specs.FlatVerdict.{flat-verdict, flat-judged, flat-response, flat-reply};
 ghost use Rattle.face.specs.FlatList.{flat-written, flat-checked, flat-replayed, flat-ending};
-
-// Nothing was refused.
-pub fn no_refusal() -> Refusal
-    ensures { λ r. ⌜ r ≡ none ⌝ }
-{
-    Refusal {
-        number: 0,
-        index: 0,
-    }
-}
-
-pub fn flat_refusal(x: table::reader::Refusal) -> Refusal
-    ensures { λ r. ⌜ r ≡ flat-refusal x ⌝ }
-{
-    Refusal {
-        number: x.number,
-        index: x.index,
-    }
-}
 
 pub fn flat_reading(x: Reading) -> Shape
     ensures { λ r. ⌜ r ≡ flat-reading x ⌝ }
 {
     match x {
         Reading::Table(shape) => Shape {
-            refusal: no_refusal(),
+            refusal: NONE,
             tasks: shape.tasks,
             records: shape.records,
         },
-        Reading::Refused(no) => Shape {
-            refusal: flat_refusal(no),
+        Reading::Refused(refusal) => Shape {
+            refusal,
             tasks: 0,
             records: 0,
         },
@@ -66,13 +47,10 @@ pub fn flat_amount(x: desk::Amount) -> Amount
 {
     match x {
         desk::Amount::Is(amount) => Amount {
-            refusal: no_refusal(),
+            refusal: NONE,
             amount,
         },
-        desk::Amount::Refused(no) => Amount {
-            refusal: flat_refusal(no),
-            amount: 0,
-        },
+        desk::Amount::Refused(refusal) => Amount { refusal, amount: 0 },
     }
 }
 
@@ -81,13 +59,10 @@ pub fn flat_margin(x: Spare) -> Margin
 {
     match x {
         Spare::Is(margin) => Margin {
-            refusal: no_refusal(),
+            refusal: NONE,
             margin,
         },
-        Spare::Refused(no) => Margin {
-            refusal: flat_refusal(no),
-            margin: 0,
-        },
+        Spare::Refused(refusal) => Margin { refusal, margin: 0 },
     }
 }
 
@@ -96,12 +71,12 @@ fn flat_closing(x: Closing) -> Window
 {
     match x {
         Closing::At(window) => Window {
-            refusal: no_refusal(),
+            refusal: NONE,
             closes: true,
             window,
         },
         Closing::Never => Window {
-            refusal: no_refusal(),
+            refusal: NONE,
             closes: false,
             window: 0,
         },
@@ -113,8 +88,8 @@ pub fn flat_window(x: desk::Window) -> Window
 {
     match x {
         desk::Window::Is(closing) => flat_closing(closing),
-        desk::Window::Refused(no) => Window {
-            refusal: flat_refusal(no),
+        desk::Window::Refused(refusal) => Window {
+            refusal,
             closes: false,
             window: 0,
         },
@@ -126,7 +101,7 @@ fn flat_verdict(x: verdict::judge::Verdict, starts: [u8; 16]) -> Verdict
 {
     match x {
         verdict::judge::Verdict::Overloaded { t, margin } => Verdict {
-            refusal: no_refusal(),
+            refusal: NONE,
             verdict: OVERLOADED,
             t,
             margin,
@@ -134,7 +109,7 @@ fn flat_verdict(x: verdict::judge::Verdict, starts: [u8; 16]) -> Verdict
             starts,
         },
         verdict::judge::Verdict::Fits { window, margin, t } => Verdict {
-            refusal: no_refusal(),
+            refusal: NONE,
             verdict: FITS,
             t,
             margin,
@@ -142,7 +117,7 @@ fn flat_verdict(x: verdict::judge::Verdict, starts: [u8; 16]) -> Verdict
             starts,
         },
         verdict::judge::Verdict::Undecided => Verdict {
-            refusal: no_refusal(),
+            refusal: NONE,
             verdict: UNDECIDED,
             t: 0,
             margin: 0,
@@ -159,8 +134,8 @@ pub fn flat_judged(x: Judged) -> Verdict
     let starts = x.starts;
     match judgement {
         Judgement::Is(said) => flat_verdict(said, starts),
-        Judgement::Refused(no) => Verdict {
-            refusal: flat_refusal(no),
+        Judgement::Refused(refusal) => Verdict {
+            refusal,
             verdict: 0,
             t: 0,
             margin: 0,
@@ -175,13 +150,13 @@ fn flat_response(x: response::rounds::Response) -> Response
 {
     match x {
         response::rounds::Response::OnTime { value, rounds } => Response {
-            refusal: no_refusal(),
+            refusal: NONE,
             late: false,
             value,
             round: rounds,
         },
         response::rounds::Response::Late { value, round } => Response {
-            refusal: no_refusal(),
+            refusal: NONE,
             late: true,
             value,
             round,
@@ -194,8 +169,8 @@ pub fn flat_reply(x: Reply) -> Response
 {
     match x {
         Reply::Is(said) => flat_response(said),
-        Reply::Refused(no) => Response {
-            refusal: flat_refusal(no),
+        Reply::Refused(refusal) => Response {
+            refusal,
             late: false,
             value: 0,
             round: 0,
@@ -208,13 +183,10 @@ pub fn flat_written(x: overload::write::Written) -> Written
 {
     match x {
         overload::write::Written::Bytes(bytes) => Written {
-            refusal: no_refusal(),
+            refusal: NONE,
             bytes,
         },
-        overload::write::Written::Refused(no) => Written {
-            refusal: flat_refusal(no),
-            bytes: 0,
-        },
+        overload::write::Written::Refused(refusal) => Written { refusal, bytes: 0 },
     }
 }
 
@@ -223,11 +195,11 @@ pub fn flat_checked(x: Checked) -> Listed
 {
     match x {
         Checked::Legal(records) => Listed {
-            refusal: no_refusal(),
+            refusal: NONE,
             records,
         },
-        Checked::Refused(no) => Listed {
-            refusal: flat_refusal(no),
+        Checked::Refused(refusal) => Listed {
+            refusal,
             records: 0,
         },
     }
@@ -238,13 +210,13 @@ fn flat_replayed(x: Replayed) -> Ending
 {
     match x {
         Replayed::Missed { tick, index } => Ending {
-            refusal: no_refusal(),
+            refusal: NONE,
             missed: true,
             tick,
             index,
         },
         Replayed::AllMet { tick } => Ending {
-            refusal: no_refusal(),
+            refusal: NONE,
             missed: false,
             tick,
             index: 0,
@@ -257,8 +229,8 @@ pub fn flat_ending(x: desk::Ending) -> Ending
 {
     match x {
         desk::Ending::Is(said) => flat_replayed(said),
-        desk::Ending::Refused(no) => Ending {
-            refusal: flat_refusal(no),
+        desk::Ending::Refused(refusal) => Ending {
+            refusal,
             missed: false,
             tick: 0,
             index: 0,

@@ -1,8 +1,8 @@
 // The bench's state in C's layout, so that a caller can step it and read every field.
-use crate::answers::Refusal;
 use bench::state::Bench;
 use bench::state::Outcome;
 use bench::state::SLOTS;
+use table::reader::Refusal;
 ghost use mathlib.Core.Path.{_≡_};
 ghost use Rattle.face.specs.State.{outcome-number, missed-record, flat-bench, running, flat-loaded};
 

@@ -12,7 +12,8 @@ pub struct Shape {
     pub tasks: usize,
 }
 
-// "Every refusal is a refusal number with the record index."
+// "Every refusal is a refusal number with the record index." In C's layout, for the boundary hands it out as it is.
+#[repr(C)]
 pub struct Refusal {
     pub number: u8,
     pub index: usize,

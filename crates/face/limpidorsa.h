@@ -1,0 +1,165 @@
+/* Limpidorsa for C: the proved desk behind the static library libface.a (x86-64 Linux; `rt staticlib face` writes it to
+ * target/staticlib/). crates/face/src/ has the same functions with their contracts, which the checker proves.
+ *
+ * A table is records of 8 bytes: task number, kind, then E, D and P, each 16 bits, low byte first. A list is records of
+ * 8 bytes: task, frame, two zero bytes, then the arrival, 32 bits, low byte first. docs/01-scope.md has the rules.
+ *
+ * Any bytes may be handed in, and any numbers. Each call answers, or refuses with one number of document 01's table.
+ * A slice is a pointer and the number of bytes that it points to. The pointer is not NULL, even where that number is 0.
+ * The bytes are only read, but for the buffer of limpidorsa_overload, and nothing is kept after the call: no function
+ * allocates, prints or calls the system, and calls may run side by side on several threads. The buffer must not overlap
+ * the table.
+ */
+#ifndef LIMPIDORSA_H
+#define LIMPIDORSA_H
+
+#include <stdbool.h>
+#include <stddef.h>
+#include <stdint.h>
+
+#ifdef __cplusplus
+extern "C" {
+#endif
+
+/* A refusal's number, 1 to 13, and the index of the record that it carries; 0 and 0 where nothing was refused. Every
+ * answer opens with one. Where its number is not 0, every other field of the answer is zero. */
+struct limpidorsa_refusal {
+    uint8_t number;
+    size_t index;
+};
+
+/* How many tasks and records a table has. */
+struct limpidorsa_shape {
+    struct limpidorsa_refusal refusal;
+    size_t tasks;
+    size_t records;
+};
+
+/* A demand or a work. */
+struct limpidorsa_amount {
+    struct limpidorsa_refusal refusal;
+    uint64_t amount;
+};
+
+/* Below zero where more is asked than there is time. */
+struct limpidorsa_margin {
+    struct limpidorsa_refusal refusal;
+    int64_t margin;
+};
+
+/* The closing window; 0 where no window closes. */
+struct limpidorsa_window {
+    struct limpidorsa_refusal refusal;
+    bool closes;
+    uint64_t window;
+};
+
+enum { LIMPIDORSA_OVERLOADED = 1, LIMPIDORSA_FITS = 2, LIMPIDORSA_UNDECIDED = 3 };
+
+/* Overloaded: the least t with a margin below zero, that margin, and the sixteen start frames, one for each task.
+ * Fits: the closing window, the least margin up to it, and the first t that has it. Undecided: the rest is zero. */
+struct limpidorsa_verdict {
+    struct limpidorsa_refusal refusal;
+    uint8_t verdict;
+    uint64_t t;
+    int64_t margin;
+    uint64_t window;
+    uint8_t starts[16];
+};
+
+/* On time: the value that repeats, and its round. Late: the first value that passes D, and its round. */
+struct limpidorsa_response {
+    struct limpidorsa_refusal refusal;
+    bool late;
+    uint64_t value;
+    uint64_t round;
+};
+
+/* How many bytes were written from the place on. */
+struct limpidorsa_written {
+    struct limpidorsa_refusal refusal;
+    size_t bytes;
+};
+
+/* How many records a legal list has. */
+struct limpidorsa_listed {
+    struct limpidorsa_refusal refusal;
+    size_t records;
+};
+
+/* A miss with its tick and its record, or all met with the tick after the last unit; then index is 0. */
+struct limpidorsa_ending {
+    struct limpidorsa_refusal refusal;
+    bool missed;
+    uint32_t tick;
+    size_t index;
+};
+
+enum { LIMPIDORSA_RUNNING = 0, LIMPIDORSA_MISSED = 1, LIMPIDORSA_ALL_MET = 2 };
+
+enum { LIMPIDORSA_SLOTS = 128 };
+
+/* The bench before a tick: what each request has left, its deadline, its arrival and its task, in the list's order, and
+ * zero where there is no request. index is the record that missed, and 0 in any other outcome. */
+struct limpidorsa_state {
+    uint32_t tick;
+    uint8_t outcome;
+    size_t index;
+    uint32_t left[LIMPIDORSA_SLOTS];
+    uint32_t due[LIMPIDORSA_SLOTS];
+    uint32_t arrive[LIMPIDORSA_SLOTS];
+    uint8_t task[LIMPIDORSA_SLOTS];
+};
+
+/* How many records the list has, and the bench that is loaded with it. */
+struct limpidorsa_loaded {
+    struct limpidorsa_refusal refusal;
+    size_t records;
+    struct limpidorsa_state state;
+};
+
+/* What the bytes are as a table. Refuses with 1 to 6, as every question does first. */
+struct limpidorsa_shape limpidorsa_read(const uint8_t *table, size_t table_len);
+
+/* The demand of a task at t. Refuses with 9, then 7. */
+struct limpidorsa_amount limpidorsa_demand(const uint8_t *table, size_t table_len, uint64_t task, uint64_t t);
+
+/* The work of a task in a window w. Refuses with 9, then 7. */
+struct limpidorsa_amount limpidorsa_work(const uint8_t *table, size_t table_len, uint64_t task, uint64_t w);
+
+/* The margin of the whole table at t. Refuses with 7. */
+struct limpidorsa_margin limpidorsa_margin(const uint8_t *table, size_t table_len, uint64_t t);
+
+/* The closing window of the table, also of one that is overloaded. */
+struct limpidorsa_window limpidorsa_window(const uint8_t *table, size_t table_len);
+
+/* The earliest-deadline verdict on the table. */
+struct limpidorsa_verdict limpidorsa_verdict(const uint8_t *table, size_t table_len);
+
+/* The response of a frame under fixed priorities, task 0 the highest. Refuses with 9, then 8. */
+struct limpidorsa_response limpidorsa_response(const uint8_t *table, size_t table_len, uint64_t task, uint64_t frame);
+
+/* Writes the overload list of the table into the buffer, from the place on; bytes before it and after the list stay.
+ * Refuses with 13, then 12, and then changes no byte. The longest list has 4,193,792 bytes. */
+struct limpidorsa_written limpidorsa_overload(const uint8_t *table, size_t table_len, uint8_t *buffer,
+                                              size_t buffer_len, size_t place);
+
+/* What the bytes are as a request list of the table. Refuses with 10 or 11. */
+struct limpidorsa_listed limpidorsa_list(const uint8_t *table, size_t table_len, const uint8_t *list, size_t list_len);
+
+/* The replay of a request list by the earliest-deadline bench. Refuses with 10 or 11. */
+struct limpidorsa_ending limpidorsa_replay(const uint8_t *table, size_t table_len, const uint8_t *list,
+                                           size_t list_len);
+
+/* The bench loaded with a request list, before tick 0. Refuses with 10 or 11; the bench then has nothing to do. */
+struct limpidorsa_loaded limpidorsa_load(const uint8_t *table, size_t table_len, const uint8_t *list, size_t list_len);
+
+/* One tick of the bench, of any state. A state whose outcome is not LIMPIDORSA_RUNNING comes back unchanged, and so
+ * does one past tick 131,070. A bench that was loaded stops within 131,071 calls. */
+struct limpidorsa_state limpidorsa_tick(struct limpidorsa_state state);
+
+#ifdef __cplusplus
+}
+#endif
+
+#endif

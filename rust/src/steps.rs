@@ -4,7 +4,7 @@ use crate::bench;
 use crate::boundary::{self, State};
 use crate::input::Input;
 use crate::lines;
-use crate::output::{count, wrapped, Out};
+use crate::output::{count, grouped, wrapped, Out};
 use crate::records::{self, Request};
 use crate::refusals;
 
@@ -44,15 +44,23 @@ fn stepped(loaded: State, requests: &[Request]) -> (String, u8) {
     let stopped = bench::run(loaded, |before, after| {
         join(&mut runs, before, after, requests.len())
     });
-    let width = format!("ticks {t} to {t}", t = stopped.tick).len();
+    let last = span(stopped.tick, stopped.tick);
+    let width = runs
+        .iter()
+        .map(|run| span(run.from, run.to).len())
+        .fold(last.len(), usize::max);
     let mut text = String::new();
     for run in &runs {
-        text.push_str(&format!("{:<width$}   {}\n", run.ticks(), run.what(requests)));
+        text.push_str(&format!(
+            "{:<width$}   {}\n",
+            span(run.from, run.to),
+            run.what(requests)
+        ));
     }
     let ending = bench::ending(&stopped);
     let (_, status) = lines::ending(ending);
     let end = if ending.missed {
-        let due = stopped.due[ending.index];
+        let due = grouped(stopped.due[ending.index].into());
         let left = count(stopped.left[ending.index].into(), "unit");
         format!(
             "miss: {} was due at {due} and has {left} left",
@@ -61,7 +69,7 @@ fn stepped(loaded: State, requests: &[Request]) -> (String, u8) {
     } else {
         "all met".into()
     };
-    text.push_str(&format!("{:<width$}   {end}", format!("tick {}", stopped.tick)));
+    text.push_str(&format!("{last:<width$}   {end}"));
     (text, status)
 }
 
@@ -83,20 +91,21 @@ fn join(runs: &mut Vec<Run>, before: &State, after: &State, records: usize) {
     }
 }
 
+fn span(from: u32, to: u32) -> String {
+    let [first, last] = [from, to].map(|tick| grouped(tick.into()));
+    if from == to {
+        format!("tick {first}")
+    } else {
+        format!("ticks {first} to {last}")
+    }
+}
+
 fn named(record: usize, requests: &[Request]) -> String {
     let r = &requests[record];
     format!("task {} frame {} (record {record})", r.task, r.frame)
 }
 
 impl Run {
-    fn ticks(&self) -> String {
-        if self.from == self.to {
-            format!("tick {}", self.from)
-        } else {
-            format!("ticks {} to {}", self.from, self.to)
-        }
-    }
-
     fn what(&self, requests: &[Request]) -> String {
         let Some(record) = self.record else {
             return "idle".into();
@@ -104,7 +113,7 @@ impl Run {
         let units = count((self.to - self.from + 1).into(), "unit");
         let rest = match self.left {
             0 => "done".into(),
-            left => format!("{left} left"),
+            left => format!("{} left", grouped(left.into())),
         };
         format!("{}, {units}, {rest}", named(record, requests))
     }

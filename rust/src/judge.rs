@@ -1,7 +1,7 @@
 //! `limpidorsa judge FILE..`: verdicts for people. One table gets a paragraph; of several each gets a line, and a total.
 use crate::boundary::{self, FITS, OVERLOADED, UNDECIDED};
 use crate::input::Input;
-use crate::lines::{self, unless_refused, FINE, NOT_ASKED};
+use crate::lines::{self, unless_refused, NOT_ASKED};
 use crate::output::{complain, count, shown, wrapped, Out};
 use crate::paragraph::{self, Judged};
 use crate::progress::Progress;
@@ -75,7 +75,7 @@ impl Total {
         let status = judged
             .as_ref()
             .map_or(NOT_ASKED, |j| unless_refused(j.verdict, lines::verdict).1);
-        self.greatest = self.greatest.max(status).max(FINE);
+        self.greatest = self.greatest.max(status);
     }
 
     fn line(&self) -> String {

@@ -10,17 +10,18 @@ impl Digest {
         Digest(14695981039346656037)
     }
 
-    /// Takes in four bytes, low byte first.
-    fn number(&mut self, n: u32) {
-        for byte in n.to_le_bytes() {
-            self.0 = (self.0 ^ u64::from(byte)).wrapping_mul(1099511628211);
+    fn bytes(&mut self, bytes: &[u8]) {
+        for byte in bytes {
+            self.0 = (self.0 ^ u64::from(*byte)).wrapping_mul(1099511628211);
         }
     }
 
     /// Takes in a state: its tick, and what each record of the list has left.
     fn state(&mut self, state: &State, records: usize) {
-        self.number(state.tick);
-        state.left[..records].iter().for_each(|&left| self.number(left));
+        self.bytes(&state.tick.to_le_bytes());
+        state.left[..records]
+            .iter()
+            .for_each(|left| self.bytes(&left.to_le_bytes()));
     }
 }
 
@@ -48,11 +49,7 @@ mod tests {
     fn the_digest_is_fnv_1a() {
         let mut digest = Digest::new();
         assert_eq!(digest.0, 0xcbf29ce484222325);
-        // The published digest of "foobar" begins with these four bytes; the other two follow one by one.
-        digest.number(u32::from_le_bytes(*b"foob"));
-        for byte in *b"ar" {
-            digest.0 = (digest.0 ^ u64::from(byte)).wrapping_mul(1099511628211);
-        }
-        assert_eq!(digest.0, 0x85944171f73967e8);
+        digest.bytes(b"foobar");
+        assert_eq!(digest.0, 0x85944171f73967e8, "its published digest");
     }
 }

@@ -3,8 +3,11 @@ use crate::program::run;
 use std::collections::BTreeMap;
 use std::path::Path;
 
-// The bytes of sporadic and other tasks: (kind, frames as (E, D, P)).
-fn table(tasks: &[(u8, &[(u16, u16, u16)])]) -> Vec<u8> {
+// A frame's E, D and P, and a task's kind and frames.
+type Frame = (u16, u16, u16);
+type Task = (u8, &'static [Frame]);
+
+fn table(tasks: &[Task]) -> Vec<u8> {
     let mut bytes = Vec::new();
     for (task, (kind, frames)) in tasks.iter().enumerate() {
         for (e, d, p) in *frames {
@@ -29,10 +32,10 @@ fn folder(name: &str) -> BTreeMap<String, Vec<u8>> {
 
 #[test]
 fn the_tables_are_the_documents() {
-    const A: &[(u16, u16, u16)] = &[(1, 2, 3), (2, 2, 2), (5, 8, 3), (1, 5, 4)];
-    const K7: &[(u16, u16, u16)] = &[(2, 2, 2), (1, 20, 1), (2, 2, 10)];
-    const LIGHT: (u8, &[(u16, u16, u16)]) = (3, &[(1, 64, 64); 4]);
-    let f: [(u8, &[(u16, u16, u16)]); 5] = [
+    const A: &[Frame] = &[(1, 2, 3), (2, 2, 2), (5, 8, 3), (1, 5, 4)];
+    const K7: &[Frame] = &[(2, 2, 2), (1, 20, 1), (2, 2, 10)];
+    const LIGHT: Task = (3, &[(1, 64, 64); 4]);
+    let f: [Task; 5] = [
         (2, &[(1, 3, 3)]),
         (2, &[(2, 9, 9)]),
         (2, &[(3, 18, 18), (1, 18, 18)]),

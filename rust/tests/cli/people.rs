@@ -52,6 +52,17 @@ fn an_overload_list_too_long_for_the_bench() {
 }
 
 #[test]
+fn an_undecided_table() {
+    let text = judged("hex:0001e903ffffe803", 1);
+    let starts = "hex:0001e903ffffe803: undecided (1 task, 1 record). The desk looks at up to 65,536 ticks, ";
+    assert!(text.starts_with(starts), "{text}");
+    assert!(
+        text.ends_with("Make an E less or a P greater, and judge again."),
+        "{text}"
+    );
+}
+
+#[test]
 fn refused_tables() {
     assert_eq!(
         judged("examples/65-records", 2),

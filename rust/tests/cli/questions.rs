@@ -50,12 +50,10 @@ fn k2_to_k4_and_k6_verdicts() {
     expect(&["verdict", "examples/65-records"], "refused 1 0", 2);
 }
 
-// These take seconds each: P is 1, and no window closes.
+// (1001,65535,1000): above full load, and the first deadlines come too late to show it.
 #[test]
-fn verdicts_at_the_limit() {
-    let limit = "overloaded t=65536 margin=-2 starts=0,0,0,0,0,0,0,0,0,0,0,0,0,0,0,0";
-    expect(&["verdict", "examples/limit"], limit, 1);
-    expect(&["verdict", "examples/undecided"], "undecided", 1);
+fn undecided_is_bad_news() {
+    expect(&["verdict", "hex:0001e903ffffe803"], "undecided", 1);
 }
 
 #[test]

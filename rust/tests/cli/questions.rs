@@ -128,7 +128,7 @@ fn k5_lists_and_replays() {
     expect(&["replay", "hex:00", "hex:00"], "refused 1 0", 2);
 }
 
-// The digests of the empty list and of B's were worked out by hand from the states: tick 0 alone, and (0: 2, 1),
+// These digests were worked out apart from the program, from the states written down: tick 0 alone, and (0: 2, 1),
 // (1: 1, 1), (2: 0, 1).
 #[test]
 fn traces() {

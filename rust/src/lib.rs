@@ -14,5 +14,6 @@ pub mod paragraph;
 pub mod progress;
 pub mod records;
 pub mod refusals;
+pub mod second;
 pub mod steps;
 pub mod trace;

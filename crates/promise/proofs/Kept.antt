@@ -1,5 +1,5 @@
 -- The promise is kept: the three demands of any bytes, the one answer of every function, the named numbers, and what a
--- caller of the code may rely on.
+-- caller of the code may rely on, in Rattle and beyond the boundary.
 -- Assumes nothing.
 use mathlib.Core.List.{List}
 use Prim.Native.Nat.{ℕ}
@@ -14,6 +14,8 @@ use Rattle.promise.proofs.JudgedLaws.{judged-rightly}
 use Rattle.promise.proofs.OneAnswerLaws.{one-answer-each}
 use Rattle.promise.proofs.NamedLaws.{named-right}
 use Rattle.promise.proofs.CallerLaws.{callers}
+use Rattle.promise.proofs.BoundaryLaws.{boundary-each}
+use Rattle.promise.proofs.ForeignLaws.{foreign}
 
 demands : (s : List ℕ) → Bytes s → Demands s
 demands s bytes =
@@ -27,4 +29,12 @@ demands s bytes =
     }
 
 pub kept : Promised
-kept = record { demands = demands; settled = one-answer-each; named = named-right; callers = callers }
+kept =
+    record {
+      demands = demands;
+      settled = one-answer-each;
+      named = named-right;
+      callers = callers;
+      boundary = boundary-each;
+      foreign = foreign;
+    }

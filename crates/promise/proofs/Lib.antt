@@ -25,3 +25,7 @@ pub mod NumberLaws
 pub mod Kept
 pub mod CallerLaws
 pub mod BenchLaws
+pub mod BoundaryLaws
+pub mod NumberedLaws
+pub mod FlatRead
+pub mod ForeignLaws

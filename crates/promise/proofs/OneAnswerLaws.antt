@@ -2,7 +2,9 @@
 -- and so are the buffers. One law, cited once for each function.
 -- Assumes nothing.
 use mathlib.Core.Path.{_≡_, refl, sym, _∙_}
-use denote.Ref.{at-last}
+use mathlib.Core.List.{List}
+use Prim.Native.Nat.{ℕ}
+use denote.Ref.{RefT, at-last}
 use Rattle.overload.specs.Place.{buffer-after}
 use Rattle.promise.specs.OneAnswer.{One-answer, Answers, second, to-write, One-answer-each}
 
@@ -29,13 +31,31 @@ equation-one {meaning = meaning} equation =
     }
 
 -- a contract `r ≡ ..`, of a function that is lent nothing to write into
-says : {Args Result : Type 0} {asked : Args → Type 0} {contract : Args → Result → Args → Type 0}
+pub says : {Args Result : Type 0} {asked : Args → Type 0} {contract : Args → Result → Args → Type 0}
     {meaning : Args → Result} → ((a : Args) → asked a)
     → ((a : Args) (r : Result) (x : Args) → contract a r x → r ≡ meaning a) → ((a : Args) → contract a (meaning a) a)
     → Answers asked contract meaning
 says free is met =
     equation-one
     (record { exit = λ a. a; free = free; means = is; leaves = λ a r x allowed. refl; met = met })
+
+-- a contract that also says what the writer's buffer is afterwards
+abbrev Writing : Type 0
+Writing = RefT (List ℕ) × (RefT (List ℕ) × (ℕ × Unit {0}))
+
+abbrev pub list-in : Writing → List ℕ
+list-in a = buffer-after (second a) (a .1 .1 .0) (to-write a)
+
+abbrev pub written-in : Writing → Writing
+written-in a = (a .0, (at-last (a .1 .0) (list-in a), a .1 .1))
+
+pub writes : {Result : Type 0} {asked : Writing → Type 0} {contract : Writing → Result → Writing → Type 0}
+    {meaning : Writing → Result} → ((a : Writing) → asked a)
+    → ((a : Writing) (r : Result) (x : Writing) → contract a r x → r ≡ meaning a)
+    → ((a : Writing) (r : Result) (x : Writing) → contract a r x → second x ≡ list-in a)
+    → ((a : Writing) → contract a (meaning a) (written-in a)) → One-answer asked contract meaning second list-in
+writes free is leaves met =
+    equation-one (record { exit = written-in; free = free; means = is; leaves = leaves; met = met })
 
 -- ---- the table
 
@@ -50,15 +70,8 @@ one-answer-each =
       judge = λ κs. says (λ a. tt) (λ a r x is. is) (λ a. refl);
       respond = λ κs. says (λ a. tt) (λ a r x is. is) (λ a. refl);
       write_overload = λ κs.
-          equation-one
-          (record {
-            exit = λ a.
-                (a .0, (at-last (a .1 .0) (buffer-after (second a) (a .1 .1 .0) (to-write a)), a .1 .1));
-            free = λ a. tt;
-            means = λ a r x wrote. wrote .answer-is;
-            leaves = λ a r x wrote. wrote .buffer-is;
-            met = λ a. record { answer-is = refl; buffer-is = refl };
-          });
+          writes (λ a. tt) (λ a r x wrote. wrote .answer-is) (λ a r x wrote. wrote .buffer-is)
+          (λ a. record { answer-is = refl; buffer-is = refl });
       check_list = λ κs. says (λ a. tt) (λ a r x is. is) (λ a. refl);
       load = λ κs. says (λ a. tt) (λ a r x is. is) (λ a. refl);
       replay = λ κs. says (λ a. tt) (λ a r x is. is) (λ a. refl);

@@ -9,3 +9,5 @@ pub mod Asked
 pub mod Named
 pub mod Demands
 pub mod Cases
+pub mod Boundary
+pub mod Foreign

@@ -5,7 +5,7 @@ use mathlib.Core.Bool.{Bool, cond}
 use borrow.Author.Tests.{eq-eqb, ne-eqb}
 use Rattle.bench.specs.declared.state.Bench.{Bench}
 use Rattle.bench.specs.Rule.{tick-of}
-use Rattle.face.specs.declared.state.State.{State}
+use Rattle.face.specs.declared.answers.State.{State}
 use Rattle.face.specs.State.{flat-bench, running, flat-tick}
 
 module _ (s : State) where

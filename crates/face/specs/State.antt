@@ -8,8 +8,8 @@ use Rattle.bench.specs.declared.state.Outcome.{Outcome}
 use Rattle.bench.specs.declared.state.Outcome.the-variants.{Running, Missed, AllMet}
 use Rattle.bench.specs.Rule.{tick-of}
 use Rattle.desk.specs.declared.Loaded as desk
-use Rattle.face.specs.declared.state.State.{State}
-use Rattle.face.specs.declared.state.Loaded.{Loaded}
+use Rattle.face.specs.declared.answers.State.{State}
+use Rattle.face.specs.declared.answers.Loaded.{Loaded}
 use Rattle.face.specs.FlatList.{flat-checked}
 
 -- 0 running, 1 missed, 2 all met

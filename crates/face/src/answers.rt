@@ -1,5 +1,6 @@
 // The answers of the boundary, laid flat: numbers and arrays of numbers only, in C's layout. Each stands in
 // limpidorsa.h, field by field. Where `refusal.number` is not 0 the question was refused, and every other field is 0.
+use bench::state::SLOTS;
 use table::reader::Refusal;
 
 // Nothing was refused: no refusal has the number 0.
@@ -85,4 +86,32 @@ pub struct Ending {
     pub missed: bool,
     pub tick: u32,
     pub index: usize,
+}
+
+// What `outcome` is in a state. Any other number is a bench that has stopped.
+pub const RUNNING: u8 = 0;
+
+pub const MISSED: u8 = 1;
+
+pub const ALL_MET: u8 = 2;
+
+// What each of the 128 requests has left, its deadline, its arrival and its task, all zero where there is no request;
+// `index` is the record that missed, and 0 in any other outcome.
+#[repr(C)]
+pub struct State {
+    pub tick: u32,
+    pub outcome: u8,
+    pub index: usize,
+    pub left: [u32; SLOTS],
+    pub due: [u32; SLOTS],
+    pub arrive: [u32; SLOTS],
+    pub task: [u8; SLOTS],
+}
+
+// How many records the list has, and the bench that is loaded with it; of a refused list, a bench with nothing to do.
+#[repr(C)]
+pub struct Loaded {
+    pub refusal: Refusal,
+    pub records: usize,
+    pub state: State,
 }

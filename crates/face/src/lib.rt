@@ -2,19 +2,20 @@
 // flat struct out. Nothing here requires anything of its caller. limpidorsa.h, beside src/, has the same for C.
 pub mod answers;
 mod flat;
-pub mod state;
+mod state;
 
 use answers::Amount;
 use answers::Ending;
 use answers::Listed;
+use answers::Loaded;
 use answers::Margin;
+use answers::RUNNING;
 use answers::Response;
 use answers::Shape;
+use answers::State;
 use answers::Verdict;
 use answers::Window;
 use answers::Written;
-use state::Loaded;
-use state::State;
 ghost use mathlib.Core.Path.{_≡_};
 ghost use Rattle.table.specs.Reader.{reading-of};
 ghost use Rattle.desk.specs.Questions.{demand-asked, work-asked, margin-asked, window-asked, verdict-asked};
@@ -127,7 +128,7 @@ pub extern "C" fn limpidorsa_load<'a, 'b>(table: &'a [u8], list: &'b [u8]) -> Lo
 pub extern "C" fn limpidorsa_tick(state: State) -> State
     ensures { λ r. ⌜ r ≡ flat-tick state ⌝ }
 {
-    if state.outcome != state::RUNNING {
+    if state.outcome != RUNNING {
         return state;
     }
     state::flat_bench(state::running(state).tick())

@@ -1,38 +1,13 @@
-// The bench's state in C's layout, so that a caller can step it and read every field.
+// The bench's state laid flat, and a flat state as a bench again.
+use crate::answers::ALL_MET;
+use crate::answers::Loaded;
+use crate::answers::MISSED;
+use crate::answers::RUNNING;
+use crate::answers::State;
 use bench::state::Bench;
 use bench::state::Outcome;
-use bench::state::SLOTS;
-use table::reader::Refusal;
 ghost use mathlib.Core.Path.{_≡_};
 ghost use Rattle.face.specs.State.{outcome-number, missed-record, flat-bench, running, flat-loaded};
-
-// What `outcome` is in a state. Any other number is a bench that has stopped.
-pub const RUNNING: u8 = 0;
-
-pub const MISSED: u8 = 1;
-
-pub const ALL_MET: u8 = 2;
-
-// What each of the 128 requests has left, its deadline, its arrival and its task, all zero where there is no request;
-// `index` is the record that missed, and 0 in any other outcome.
-#[repr(C)]
-pub struct State {
-    pub tick: u32,
-    pub outcome: u8,
-    pub index: usize,
-    pub left: [u32; SLOTS],
-    pub due: [u32; SLOTS],
-    pub arrive: [u32; SLOTS],
-    pub task: [u8; SLOTS],
-}
-
-// How many records the list has, and the bench that is loaded with it; of a refused list, a bench with nothing to do.
-#[repr(C)]
-pub struct Loaded {
-    pub refusal: Refusal,
-    pub records: usize,
-    pub state: State,
-}
 
 fn outcome_number(outcome: Outcome) -> u8
     ensures { λ r. ⌜ r ≡ outcome-number outcome ⌝ }

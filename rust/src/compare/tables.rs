@@ -1,0 +1,156 @@
+//! The kinds of good tables.
+use super::rng::Rng;
+use super::sort::{build, Deadline, Sort, SMALL};
+
+/// Small, near full load: fits, overloaded and undecided all occur.
+pub fn near_full_load(rng: &mut Rng) -> Vec<u8> {
+    let deadline = rng.pick(&[Deadline::Within, Deadline::Any]);
+    build(rng, Sort { deadline, ..SMALL })
+}
+
+pub fn d_above_p(rng: &mut Rng) -> Vec<u8> {
+    build(
+        rng,
+        Sort {
+            kinds: &[1, 3],
+            load: (85, 130),
+            deadline: Deadline::Above,
+            ..SMALL
+        },
+    )
+}
+
+pub fn e_above_d(rng: &mut Rng) -> Vec<u8> {
+    build(
+        rng,
+        Sort {
+            load: (10, 300),
+            deadline: Deadline::Below,
+            ..SMALL
+        },
+    )
+}
+
+/// Any number of tasks and frames.
+pub fn wide(rng: &mut Rng) -> Vec<u8> {
+    let deadline = rng.pick(&[Deadline::Within, Deadline::Above, Deadline::Any]);
+    build(
+        rng,
+        Sort {
+            tasks: (1, 16),
+            frames: (1, 16),
+            p: (20, 600),
+            load: (40, 110),
+            deadline,
+            ..SMALL
+        },
+    )
+}
+
+/// Exactly at a limit: 64 records, 16 tasks, 16 frames of a task, or two of them at once.
+pub fn at_the_limits(rng: &mut Rng) -> Vec<u8> {
+    let (tasks, frames) = rng.pick(&[(4, 16), (16, 4), (16, 1), (1, 16), (8, 8), (2, 16), (5, 16)]);
+    let p = rng.pick(&[(30, 300), (500, 9_000)]);
+    let deadline = rng.pick(&[Deadline::Within, Deadline::Above, Deadline::Any]);
+    let sort = Sort {
+        kinds: &[2, 3],
+        p,
+        load: (40, 105),
+        deadline,
+        ..SMALL
+    };
+    build(
+        rng,
+        Sort {
+            tasks: (tasks, tasks),
+            frames: (frames, frames),
+            ..sort
+        },
+    )
+}
+
+pub fn sporadic(rng: &mut Rng) -> Vec<u8> {
+    build(
+        rng,
+        Sort {
+            tasks: (1, 8),
+            kinds: &[1],
+            p: (3, 60),
+            deadline: Deadline::Any,
+            ..SMALL
+        },
+    )
+}
+
+pub fn multiframe(rng: &mut Rng) -> Vec<u8> {
+    build(
+        rng,
+        Sort {
+            tasks: (1, 5),
+            frames: (2, 5),
+            kinds: &[2],
+            p: (3, 60),
+            load: (30, 105),
+            ..SMALL
+        },
+    )
+}
+
+pub fn generalized(rng: &mut Rng) -> Vec<u8> {
+    let deadline = rng.pick(&[Deadline::Within, Deadline::Any]);
+    build(
+        rng,
+        Sort {
+            frames: (2, 6),
+            kinds: &[3],
+            p: (2, 40),
+            load: (50, 105),
+            deadline,
+            ..SMALL
+        },
+    )
+}
+
+/// Many tasks with no D above P, so that every frame has a response.
+pub fn priorities(rng: &mut Rng) -> Vec<u8> {
+    build(
+        rng,
+        Sort {
+            tasks: (2, 10),
+            p: (10, 200),
+            load: (40, 100),
+            ..SMALL
+        },
+    )
+}
+
+/// More load than there is time for, and late deadlines: overloaded late, or undecided.
+pub fn late_deadlines(rng: &mut Rng) -> Vec<u8> {
+    let p = rng.pick(&[(400, 2_000), (2_000, 20_000), (20_000, 65_535)]);
+    let deadline = Deadline::Greatest;
+    build(
+        rng,
+        Sort {
+            tasks: (1, 3),
+            kinds: &[1, 3],
+            p,
+            load: (90, 220),
+            deadline,
+            ..SMALL
+        },
+    )
+}
+
+/// Large numbers in every field.
+pub fn large_numbers(rng: &mut Rng) -> Vec<u8> {
+    let deadline = rng.pick(&[Deadline::Within, Deadline::Any]);
+    build(
+        rng,
+        Sort {
+            p: (3_000, 65_535),
+            load: (40, 110),
+            deadline,
+            ..SMALL
+        },
+    )
+}

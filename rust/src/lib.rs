@@ -1,9 +1,11 @@
-//! The desk at the command line: `boundary` calls the proved library, `cli` answers the program's arguments.
+//! The desk at the command line: `boundary` calls the proved library, `cli` answers the program's arguments. `second`
+//! is document 01 once more, and `compare` holds the two against each other.
 pub mod ask;
 pub mod batch;
 pub mod bench;
 pub mod boundary;
 pub mod cli;
+pub mod compare;
 pub mod explain;
 pub mod help;
 pub mod input;

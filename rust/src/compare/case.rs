@@ -1,0 +1,63 @@
+//! One case: a table with its lists, everything about them asked of both programs. It depends on the seed and the case's
+//! number only.
+use super::ask::{Ask, Same};
+use super::cost::Cost;
+use super::counts::{Counts, Section};
+use super::difference::Difference;
+use super::first::First;
+use super::kinds::{LISTS, OWN_LIST, TABLES};
+use super::purse::Purse;
+use super::record::tasks_of;
+use super::rng::Rng;
+use super::{bench, buffers, foreign, oddities, questions};
+use std::panic::{catch_unwind, AssertUnwindSafe};
+
+/// What was compared, and the difference if there is one. A program that panics differs from one that answers.
+pub fn compare(first: &dyn First, seed: u64, case: u64) -> (Counts, Option<Difference>) {
+    let mut ask = Ask {
+        first,
+        rng: Rng::new(seed, case),
+        purse: Purse::of(case),
+        counts: Counts::default(),
+        cost: Cost::default(),
+        table: Vec::new(),
+        list: Vec::new(),
+    };
+    let found = match catch_unwind(AssertUnwindSafe(|| everything(&mut ask, case))) {
+        Ok(same) => same.err(),
+        Err(_) => {
+            let said = "one of them panicked, as is said above";
+            Some(ask.difference(
+                "a question of this case".to_string(),
+                said.to_string(),
+                said.to_string(),
+            ))
+        }
+    };
+    (ask.counts, found)
+}
+
+fn everything(ask: &mut Ask, case: u64) -> Same<()> {
+    let (name, build) = TABLES[(case % TABLES.len() as u64) as usize];
+    ask.table = build(&mut ask.rng);
+    ask.counts.add(Section::Tables, name, 1);
+    let good = questions::about_the_table(ask)?;
+    let own = buffers::overload(ask)?;
+    for _ in 0..if good { 4 } else { 1 } {
+        let (name, build) = ask.rng.pick(&LISTS);
+        let list = build(&mut ask.rng, &tasks_of(&ask.table));
+        with_list(ask, name, list)?;
+    }
+    if let Some(list) = own {
+        with_list(ask, OWN_LIST, list)?;
+    }
+    ask.list.clear();
+    oddities::line(ask)?;
+    foreign::ticks(ask)
+}
+
+fn with_list(ask: &mut Ask, name: &'static str, list: Vec<u8>) -> Same<()> {
+    ask.list = list;
+    ask.counts.add(Section::Lists, name, 1);
+    bench::about_the_list(ask)
+}

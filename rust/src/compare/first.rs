@@ -1,0 +1,57 @@
+//! The first program, the proved library, as the comparison asks it. A test puts a wrong answer in place of one of these.
+use crate::boundary::{self, Ending, Loaded, No, Response, Shape, State, Verdict};
+use std::ops::Range;
+
+pub trait First: Sync {
+    /// The answer line to a command line.
+    fn line(&self, line: &str) -> String;
+
+    fn read(&self, table: &[u8]) -> Result<Shape, No> {
+        boundary::read(table)
+    }
+    fn demand(&self, table: &[u8], task: u64, t: u64) -> Result<u64, No> {
+        boundary::demand(table, task, t)
+    }
+    fn work(&self, table: &[u8], task: u64, w: u64) -> Result<u64, No> {
+        boundary::work(table, task, w)
+    }
+    fn margin(&self, table: &[u8], t: u64) -> Result<i64, No> {
+        boundary::margin(table, t)
+    }
+    fn window(&self, table: &[u8]) -> Result<Option<u64>, No> {
+        boundary::window(table)
+    }
+    fn verdict(&self, table: &[u8]) -> Result<Verdict, No> {
+        boundary::verdict(table)
+    }
+    fn response(&self, table: &[u8], task: u64, frame: u64) -> Result<Response, No> {
+        boundary::response(table, task, frame)
+    }
+    /// The overload list into the part of the memory that is lent.
+    fn overload(&self, table: &[u8], memory: &mut [u8], lent: Range<usize>, place: u64) -> Result<usize, No> {
+        boundary::overload(table, &mut memory[lent], place as usize)
+    }
+    fn list(&self, table: &[u8], list: &[u8]) -> Result<usize, No> {
+        boundary::list(table, list)
+    }
+    fn replay(&self, table: &[u8], list: &[u8]) -> Result<Ending, No> {
+        boundary::replay(table, list)
+    }
+    fn load(&self, table: &[u8], list: &[u8]) -> Result<Loaded, No> {
+        boundary::load(table, list)
+    }
+    fn tick(&self, state: State) -> State {
+        boundary::tick(state)
+    }
+}
+
+/// The library as it is, with the function that answers a line.
+pub struct Proved {
+    pub line: fn(&str) -> String,
+}
+
+impl First for Proved {
+    fn line(&self, line: &str) -> String {
+        (self.line)(line)
+    }
+}

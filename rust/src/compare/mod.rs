@@ -19,10 +19,12 @@ mod lists;
 mod oddities;
 mod purse;
 mod questions;
-mod record;
+pub mod record;
 mod rng;
 pub mod run;
 mod sort;
 mod special;
 mod spoil;
 mod tables;
+#[cfg(test)]
+mod tests;

@@ -20,7 +20,7 @@ or an ending was never met.
 
 const SEED: u64 = 1;
 // A minute or so on two cores.
-const CASES: u64 = 5_400;
+const CASES: u64 = 5_700;
 
 #[derive(Clone, Copy)]
 enum Which {

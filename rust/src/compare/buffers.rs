@@ -23,7 +23,11 @@ pub fn overload(ask: &mut Ask) -> Same<Option<Vec<u8>>> {
             into_buffer(ask, length, place, list.as_deref())?;
         }
     }
-    lines(ask, list.as_ref().map_or(16, Vec::len), once)?;
+    lines(ask, list.as_ref().map(Vec::len), once)?;
+    if list.as_ref().is_some_and(|l| l.len() > 1_024) {
+        ask.counts
+            .add(Section::Compared, "overload lists above 128 records", 1);
+    }
     Ok(list)
 }
 
@@ -88,16 +92,16 @@ fn into_buffer(ask: &mut Ask, length: usize, place: u64, list: Option<&[u8]>) ->
     Ok(())
 }
 
-// The same as command lines, where the line would not be too long.
-fn lines(ask: &mut Ask, n: usize, once: u64) -> Same<()> {
-    if n > LONGEST {
+// The same as command lines, one of the buffers, where the line would not be too long.
+fn lines(ask: &mut Ask, list: Option<usize>, once: u64) -> Same<()> {
+    if list.is_some_and(|n| n > LONGEST) {
         ask.counts.add(Section::PassedOver, "overload-list", 1);
         return Ok(());
     }
-    let place = ask.rng.below(9);
-    let length = (n as u64 + place + ask.rng.below(4)).saturating_sub(u64::from(ask.rng.chance(30)));
+    let rooms = rooms(ask, list);
+    let (length, place) = ask.rng.pick(&rooms);
     if ask.rng.chance(50) && ask.pays("overload", once) {
-        ask.table_line("overload", &[length, place])?;
+        ask.table_line("overload", &[length as u64, place])?;
     }
     if ask.rng.chance(50) && ask.pays("overload-list", once) {
         ask.table_line("overload-list", &[])?;

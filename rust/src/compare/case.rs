@@ -12,6 +12,8 @@ use super::rng::Rng;
 use super::{bench, buffers, foreign, oddities, questions};
 use std::panic::{catch_unwind, AssertUnwindSafe};
 
+const FOREIGN_STATES: usize = 8;
+
 /// What was compared, and the difference if there is one. A program that panics differs from one that answers.
 pub fn compare(first: &dyn First, seed: u64, case: u64) -> (Counts, Option<Difference>) {
     let mut ask = Ask {
@@ -39,7 +41,8 @@ pub fn compare(first: &dyn First, seed: u64, case: u64) -> (Counts, Option<Diffe
 
 fn everything(ask: &mut Ask, case: u64) -> Same<()> {
     let (name, build) = TABLES[(case % TABLES.len() as u64) as usize];
-    ask.table = build(&mut ask.rng);
+    let lent = build(&mut ask.rng);
+    ask.table = lent.clone();
     ask.counts.add(Section::Tables, name, 1);
     let good = questions::about_the_table(ask)?;
     let own = buffers::overload(ask)?;
@@ -53,11 +56,24 @@ fn everything(ask: &mut Ask, case: u64) -> Same<()> {
     }
     ask.list.clear();
     oddities::line(ask)?;
-    foreign::ticks(ask)
+    for _ in 0..FOREIGN_STATES {
+        foreign::ticks(ask)?;
+    }
+    unchanged(ask, &ask.table, &lent)
+}
+
+// "no lent byte changes": what was only to be read is what it was.
+fn unchanged(ask: &Ask, now: &Vec<u8>, lent: &Vec<u8>) -> Same<()> {
+    ask.equal(
+        || "the bytes lent to be read, afterwards and before".to_string(),
+        now,
+        lent,
+    )
 }
 
 fn with_list(ask: &mut Ask, name: &'static str, list: Vec<u8>) -> Same<()> {
-    ask.list = list;
+    ask.list = list.clone();
     ask.counts.add(Section::Lists, name, 1);
-    bench::about_the_list(ask)
+    bench::about_the_list(ask)?;
+    unchanged(ask, &ask.list, &list)
 }

@@ -97,7 +97,7 @@ impl Counts {
                 text += &format!("{:<44}{total:>12}\n", section.title());
                 last = Some(section);
             }
-            text += &format!("  {name:<30}{n:>12}\n");
+            text += &format!("  {name:<42}{n:>12}\n");
         }
         text
     }

@@ -6,7 +6,7 @@ use super::{damage, special, spoil, tables};
 pub type TableKind = (&'static str, fn(&mut Rng) -> Vec<u8>);
 pub type ListKind = (&'static str, fn(&mut Rng, &Tasks) -> Vec<u8>);
 
-pub const TABLES: [TableKind; 18] = [
+pub const TABLES: [TableKind; 19] = [
     ("near full load", tables::near_full_load),
     ("D above P", tables::d_above_p),
     ("E above D", tables::e_above_d),
@@ -17,6 +17,7 @@ pub const TABLES: [TableKind; 18] = [
     ("generalized", tables::generalized),
     ("no D above P", tables::priorities),
     ("late deadlines", tables::late_deadlines),
+    ("thick requests", tables::thick_requests),
     ("large numbers", tables::large_numbers),
     ("values at the edges", special::edges),
     ("of the document", special::of_the_document),

@@ -9,11 +9,11 @@ pub struct Purse {
 }
 
 impl Purse {
-    /// One case in 251 may ask what takes seconds, one in 13 what takes a replay to the last tick. Neither number shares
+    /// One case in 503 may ask what takes seconds, one in 13 what takes a replay to the last tick. Neither number shares
     /// a factor with that of the kinds of tables, so that every kind has its turn.
     pub fn of(case: u64) -> Purse {
-        let (each, left) = match (case % 251, case % 13) {
-            (250, _) => (3_000, 6_000),
+        let (each, left) = match (case % 503, case % 13) {
+            (502, _) => (8_000, 12_000),
             (_, 12) => (200, 400),
             _ => (20, 60),
         };

@@ -9,6 +9,9 @@ use std::time::{Duration, Instant};
 
 const THREADS: usize = 2;
 
+// A long run says that it goes on.
+const SAID_EVERY: u64 = 10_000;
+
 /// When a run ends.
 #[derive(Debug, Clone, Copy, PartialEq, Eq)]
 pub enum Until {
@@ -54,6 +57,9 @@ pub fn run(first: &dyn First, seed: u64, until: Until) -> Found {
         let case = next.fetch_add(1, Ordering::Relaxed);
         if stop.load(Ordering::Relaxed) || until.reached(case, start) {
             return;
+        }
+        if case > 0 && case % SAID_EVERY == 0 {
+            eprintln!("{case} cases, no difference so far");
         }
         let (counts, difference) = case::compare(first, seed, case);
         if difference.is_some() {

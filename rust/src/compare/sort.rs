@@ -13,8 +13,8 @@ pub enum Deadline {
     Below,
     /// From 1 to twice P.
     Any,
-    /// In the last tenth of what a deadline can be.
-    Greatest,
+    /// From the one to the other, whatever P is.
+    From(u64, u64),
 }
 
 /// What a kind of table is like; each pair is a least and a greatest. The load is in percent, of the whole table.
@@ -46,7 +46,7 @@ fn deadline(rng: &mut Rng, rule: Deadline, e: u64, p: u64) -> u64 {
         Deadline::Above => p + rng.between(1, 4 * p),
         Deadline::Below => rng.between(1, e.max(2) - 1),
         Deadline::Any => rng.between(1, 2 * p),
-        Deadline::Greatest => rng.between(59_000, 65_535),
+        Deadline::From(least, greatest) => rng.between(least, greatest),
     }
 }
 

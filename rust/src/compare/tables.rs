@@ -127,7 +127,7 @@ pub fn priorities(rng: &mut Rng) -> Vec<u8> {
 /// More load than there is time for, and late deadlines: overloaded late, or undecided.
 pub fn late_deadlines(rng: &mut Rng) -> Vec<u8> {
     let p = rng.pick(&[(400, 2_000), (2_000, 20_000), (20_000, 65_535)]);
-    let deadline = Deadline::Greatest;
+    let deadline = Deadline::From(59_000, 65_535);
     build(
         rng,
         Sort {
@@ -135,6 +135,22 @@ pub fn late_deadlines(rng: &mut Rng) -> Vec<u8> {
             kinds: &[1, 3],
             p,
             load: (90, 220),
+            deadline,
+            ..SMALL
+        },
+    )
+}
+
+/// Requests that come thick, with deadlines far behind: the overload list has hundreds of them.
+pub fn thick_requests(rng: &mut Rng) -> Vec<u8> {
+    let deadline = Deadline::From(100, 600);
+    build(
+        rng,
+        Sort {
+            tasks: (1, 3),
+            kinds: &[1, 3],
+            p: (1, 5),
+            load: (110, 250),
             deadline,
             ..SMALL
         },

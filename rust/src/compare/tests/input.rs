@@ -5,7 +5,7 @@ use crate::compare::record::tasks_of;
 use crate::compare::rng::Rng;
 use crate::second;
 
-const GOOD_TABLES: usize = 12;
+const GOOD_TABLES: usize = 13;
 const LEGAL_LISTS: usize = 7;
 
 #[test]

@@ -73,7 +73,8 @@ fn median(mut all: Vec<f64>) -> f64 {
     all[all.len() / 2]
 }
 
-// A row of the table: the two programs in turn, round by round, so that both meet the same load of the machine.
+// A row of the table: the two programs in turn, round by round, so that both meet the same load of the
+// machine.
 fn row(name: &str, first: &mut dyn FnMut() -> usize, second: &mut dyn FnMut() -> usize) {
     let rounds: Vec<(f64, f64)> = (0..ROUNDS).map(|_| (round(first), round(second))).collect();
     let one = median(rounds.iter().map(|r| r.0).collect());

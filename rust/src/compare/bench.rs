@@ -31,8 +31,8 @@ pub fn about_the_list(ask: &mut Ask) -> Same<()> {
     }
 }
 
-// Every request is done or missed by the greatest deadline; and all are done once there was time for them after the
-// last arrival.
+// Every request is done or missed by the greatest deadline; and all are done once there was time for them
+// after the last arrival.
 fn most_ticks(loaded: &second::State) -> u64 {
     let greatest = |all: &[u32]| all.iter().copied().max().map_or(0, u64::from);
     let work: u64 = loaded.left.iter().copied().map(u64::from).sum();

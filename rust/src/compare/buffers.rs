@@ -1,4 +1,5 @@
-//! The overload list written into buffers of many lengths from many places, each with guard bytes on both sides.
+//! The overload list written into buffers of many lengths from many places, each with guard bytes on both
+//! sides.
 use super::ask::{Ask, Same};
 use super::counts::Section;
 use crate::second;
@@ -31,8 +32,8 @@ pub fn overload(ask: &mut Ask) -> Same<Option<Vec<u8>>> {
     Ok(list)
 }
 
-// Length of the buffer and place: exact room, one byte short, the place at the end, past it and far past it. Where there
-// is nothing to write one of them will do.
+// Length of the buffer and place: exact room, one byte short, the place at the end, past it and far past it.
+// Where there is nothing to write one of them will do.
 fn rooms(ask: &mut Ask, list: Option<usize>) -> Vec<(usize, u64)> {
     let n = list.unwrap_or(16);
     let at = ask.rng.between(1, 40);

@@ -1,5 +1,5 @@
-//! One case: a table with its lists, everything about them asked of both programs. It depends on the seed and the case's
-//! number only.
+//! One case: a table with its lists, everything about them asked of both programs. It depends on the seed and
+//! the case's number only.
 use super::ask::{Ask, Same};
 use super::cost::Cost;
 use super::counts::{Counts, Section};
@@ -14,7 +14,8 @@ use std::panic::{catch_unwind, AssertUnwindSafe};
 
 const FOREIGN_STATES: usize = 8;
 
-/// What was compared, and the difference if there is one. A program that panics differs from one that answers.
+/// What was compared, and the difference if there is one. A program that panics differs from one that
+/// answers.
 pub fn compare(first: &dyn First, seed: u64, case: u64) -> (Counts, Option<Difference>) {
     let mut ask = Ask {
         first,
@@ -28,7 +29,7 @@ pub fn compare(first: &dyn First, seed: u64, case: u64) -> (Counts, Option<Diffe
     let found = match catch_unwind(AssertUnwindSafe(|| everything(&mut ask, case))) {
         Ok(same) => same.err(),
         Err(_) => {
-            let said = "one of them panicked, as is said above";
+            let said = "one of the two panicked, as is said above";
             Some(ask.difference(
                 "a question of this case".to_string(),
                 said.to_string(),

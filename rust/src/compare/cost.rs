@@ -1,10 +1,10 @@
-//! What a question will cost, in nanoseconds, guessed from the table: the first program walks frame by frame and t by t,
-//! so that a search that stops late takes minutes on some tables.
+//! What a question will cost, in nanoseconds, guessed from the table: the first program walks frame by frame
+//! and t by t, so that a search that stops late takes minutes on some tables.
 use super::record::{tasks_of, Record};
 use crate::second;
 
-// Measured: a step of a walk, a tick of both benches with their states compared, and what the second program spends on
-// a record in a search to the limit.
+// Measured: a step of a walk, a tick of both benches with their states compared, and what the second program
+// spends on a record in a search to the limit.
 const STEP: f64 = 1.6;
 pub const TICK: u64 = 1_200;
 const RECORD_TO_LIMIT: f64 = 150_000.0;
@@ -39,7 +39,8 @@ fn search(tasks: &[Vec<Record>], end: u64) -> f64 {
     end as f64 * walk(tasks, end as f64 / 2.0)
 }
 
-// Where the search for a window stops. Work never falls as the window grows, so that no window closes below the work.
+// Where the search for a window stops. Work never falls as the window grows, so that no window closes below
+// the work.
 fn window_end(table: &[u8], tasks: &[Vec<Record>]) -> u64 {
     let mut w = 1;
     for _ in 0..300 {
@@ -54,7 +55,8 @@ fn window_end(table: &[u8], tasks: &[Vec<Record>]) -> u64 {
     LIMIT
 }
 
-// Some t with an overload, tried at the deadlines and at steps that grow, while a search up to there could be paid.
+// Some t with an overload, tried at the deadlines and at steps that grow, while a search up to there could be
+// paid.
 fn some_overload(table: &[u8], tasks: &[Vec<Record>], most: u64) -> Option<u64> {
     let deadlines = tasks.iter().flatten().map(|r| u64::from(r.d));
     let steps = std::iter::successors(Some(1), |t: &u64| Some(t + 1 + t / 8));

@@ -25,12 +25,12 @@ pub const VERDICTS: [&str; 3] = ["overloaded", "fits", "undecided"];
 pub const RESPONSES: [&str; 2] = ["on time", "late"];
 pub const ENDINGS: [&str; 2] = ["miss", "all met"];
 
-// What every run must meet.
-const MUST: [(Section, &[&str]); 4] = [
-    (Refusals, &NUMBERS),
-    (Verdicts, &VERDICTS),
-    (Responses, &RESPONSES),
-    (Endings, &ENDINGS),
+// What every run must meet, and how one of them is called.
+const MUST: [(Section, &str, &[&str]); 4] = [
+    (Refusals, "refusal", &NUMBERS),
+    (Verdicts, "verdict", &VERDICTS),
+    (Responses, "response", &RESPONSES),
+    (Endings, "ending", &ENDINGS),
 ];
 
 #[derive(Debug, Default, Clone, PartialEq, Eq)]
@@ -70,12 +70,12 @@ impl Counts {
 
     /// What a run must meet and this one did not: then the counts say too little.
     pub fn never_met(&self) -> Vec<String> {
-        let all = MUST
-            .iter()
-            .flat_map(|&(section, names)| names.iter().map(move |&name| (section, name)));
-        all.filter(|&(section, name)| self.of(section, name) == 0)
-            .map(|(section, name)| format!("{}: {}", section.title(), name.trim()))
-            .collect()
+        let mut never = Vec::new();
+        for (section, what, names) in MUST {
+            let missing = names.iter().filter(|name| self.of(section, name) == 0);
+            never.extend(missing.map(|name| format!("{what} {}", name.trim())));
+        }
+        never
     }
 
     pub fn report(&self) -> String {
@@ -119,6 +119,6 @@ mod tests {
         b.add(Refusals, "13", 3);
         a.join(&b);
         assert_eq!(a.of(Refusals, "13"), 5);
-        assert!(!a.never_met().iter().any(|line| line.ends_with("13")));
+        assert!(!a.never_met().contains(&"refusal 13".to_string()));
     }
 }

@@ -75,7 +75,8 @@ fn a_zero(rng: &mut Rng, all: &mut Vec<Record>, i: usize) {
     }
 }
 
-// Refusal 6: D is not P, or another P than the task's first, of a task that is made multiframe where it is none.
+// Refusal 6: D is not P, or another P than the task's first, of a task that is made multiframe where it is
+// none.
 fn made_multiframe(all: &mut [Record], i: usize) {
     let first = first_of(all, i);
     let (task, p) = (all[first].task, all[first].p);
@@ -137,7 +138,8 @@ pub fn two_faults(rng: &mut Rng) -> Vec<u8> {
     damaged(rng, 2)
 }
 
-/// Refusal 1: nothing, bytes too few or too many for whole records, more than 64 records; faults in them or not.
+/// Refusal 1: nothing, bytes too few or too many for whole records, more than 64 records; faults in them or
+/// not.
 pub fn wrong_length(rng: &mut Rng) -> Vec<u8> {
     let faults = rng.pick(&[0, 0, 1]);
     let mut table = damaged(rng, faults);

@@ -1,5 +1,5 @@
-//! The second program's answers in the first one's structs, so that every field is compared: those that an answer does
-//! not use are 0.
+//! The second program's answers in the first one's structs, so that every field is compared: those that an
+//! answer does not use are 0.
 use crate::boundary::{self, Refusal, ALL_MET, FITS, MISSED, OVERLOADED, RUNNING, UNDECIDED};
 use crate::second;
 

@@ -1,4 +1,5 @@
-//! The first program, the proved library, as the comparison asks it. A test puts a wrong answer in place of one of these.
+//! The first program, the proved library, as the comparison asks it. A test puts a wrong answer in place of
+//! one of these.
 use crate::boundary::{self, Ending, Loaded, No, Response, Shape, State, Verdict};
 use std::ops::Range;
 

@@ -31,7 +31,8 @@ fn deadline(rng: &mut Rng, tick: u32, calm: bool) -> u32 {
     }
 }
 
-fn state(rng: &mut Rng) -> State {
+// A state with its outcome and tick, and nothing in its slots.
+fn blank(rng: &mut Rng) -> State {
     let any = rng.next() as u32;
     let tick = rng.pick(&[
         0,
@@ -51,20 +52,7 @@ fn state(rng: &mut Rng) -> State {
         rng.pick(&[1, 2, 3, 4, 128, 255, any as u8])
     };
     let index = rng.pick(&[0, 0, 5, 127, 128, usize::MAX]);
-    let (mut left, mut due, mut arrive, mut task) = ([0; SLOTS], [0; SLOTS], [0; SLOTS], [0; SLOTS]);
-    let (calm, filled, high) = (
-        rng.chance(70),
-        rng.pick(&[0, 1, 10, 60, 100]),
-        rng.pick(&[1, 3, 255]),
-    );
-    for i in 0..SLOTS {
-        if rng.chance(filled) {
-            left[i] = rng.pick(&[0, 1, 2, 7, u32::MAX]);
-            due[i] = deadline(rng, tick, calm);
-            arrive[i] = near(rng, tick);
-            task[i] = rng.between(0, high) as u8;
-        }
-    }
+    let (left, due, arrive, task) = ([0; SLOTS], [0; SLOTS], [0; SLOTS], [0; SLOTS]);
     State {
         tick,
         outcome,
@@ -74,6 +62,24 @@ fn state(rng: &mut Rng) -> State {
         arrive,
         task,
     }
+}
+
+fn state(rng: &mut Rng) -> State {
+    let mut s = blank(rng);
+    let (calm, filled, high) = (
+        rng.chance(70),
+        rng.pick(&[0, 1, 10, 60, 100]),
+        rng.pick(&[1, 3, 255]),
+    );
+    for i in 0..SLOTS {
+        if rng.chance(filled) {
+            s.left[i] = rng.pick(&[0, 1, 2, 7, u32::MAX]);
+            s.due[i] = deadline(rng, s.tick, calm);
+            s.arrive[i] = near(rng, s.tick);
+            s.task[i] = rng.between(0, high) as u8;
+        }
+    }
+    s
 }
 
 /// Some ticks of a random state. A bench that has stopped, by whatever number, comes back as it is.

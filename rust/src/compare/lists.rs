@@ -5,8 +5,8 @@ use super::rng::Rng;
 /// The tasks that a list is made for, each its frames.
 pub type Tasks = [Vec<Record>];
 
-// How a legal list goes: at most so many requests, the first of a task from here to there, then in so many of a hundred
-// cases a wait beyond P; every arrival a multiple of the beat.
+// How a legal list goes: at most so many requests, the first of a task from here to there, then in so many of
+// a hundred cases a wait beyond P; every arrival a multiple of the beat.
 struct Pace {
     most: u64,
     begin: (u64, u64),

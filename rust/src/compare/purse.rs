@@ -9,8 +9,8 @@ pub struct Purse {
 }
 
 impl Purse {
-    /// One case in 503 may ask what takes seconds, one in 13 what takes a replay to the last tick. Neither number shares
-    /// a factor with that of the kinds of tables, so that every kind has its turn.
+    /// One case in 503 may ask what takes seconds, one in 13 what takes a replay to the last tick. Neither
+    /// number shares a factor with that of the kinds of tables, so that every kind has its turn.
     pub fn of(case: u64) -> Purse {
         let (each, left) = match (case % 503, case % 13) {
             (502, _) => (8_000, 12_000),

@@ -17,7 +17,8 @@ pub enum Deadline {
     From(u64, u64),
 }
 
-/// What a kind of table is like; each pair is a least and a greatest. The load is in percent, of the whole table.
+/// What a kind of table is like; each pair is a least and a greatest. The load is in percent, of the whole
+/// table.
 pub struct Sort {
     pub tasks: (u64, u64),
     pub frames: (u64, u64),

@@ -1,4 +1,5 @@
-//! Tables that no rule of thumb builds: values at the edges, the document's own tables, and bytes of no sense.
+//! Tables that no rule of thumb builds: values at the edges, the document's own tables, and bytes of no
+//! sense.
 use super::record::{table_of, Record};
 use super::rng::Rng;
 

@@ -1,5 +1,5 @@
-//! The good tables are good and the legal lists legal, so that the comparison is not of refusals only; and the damaged
-//! ones meet every refusal of a table and of a list.
+//! The good tables are good and the legal lists legal, so that the comparison is not of refusals only; and
+//! the damaged ones meet every refusal of a table and of a list.
 use crate::compare::kinds::{LISTS, TABLES};
 use crate::compare::record::tasks_of;
 use crate::compare::rng::Rng;

@@ -1,4 +1,5 @@
-//! Tests of the comparison itself: that it can fail, that it repeats, and that its input is what it is said to be.
+//! Tests of the comparison itself: that it can fail, that it repeats, and that its input is what it is said
+//! to be.
 mod input;
 mod runs;
 mod slips;

@@ -18,6 +18,7 @@ pub enum Slip {
     StoppedTicks,
     Word,
     ErrorAnswered,
+    Panic,
 }
 
 /// The library with one slip in it.
@@ -33,6 +34,7 @@ impl First for Wrong {
         }
     }
     fn read(&self, table: &[u8]) -> Result<Shape, No> {
+        assert!(self.0 != Slip::Panic || table.len() != 8, "this slip is a panic");
         let by = usize::from(self.0 == Slip::RefusedIndex);
         boundary::read(table).map_err(|no| No {
             index: no.index + by * usize::from(no.number == 6),
@@ -108,6 +110,15 @@ fn each_slip_is_found_and_its_case_repeats_it() {
             "{report}"
         );
     }
+}
+
+#[test]
+fn a_panic_is_a_difference_with_its_table() {
+    let (_, difference) = run(&Wrong(Slip::Panic), 1, Until::Cases(200))
+        .difference
+        .expect("the panic is found");
+    assert!(difference.first.contains("panicked"), "{}", difference.first);
+    assert_eq!(difference.table.len(), 8);
 }
 
 #[test]

@@ -39,15 +39,15 @@ fn search(tasks: &[Vec<Record>], end: u64) -> f64 {
     end as f64 * walk(tasks, end as f64 / 2.0)
 }
 
-// Where the search for a window stops. Work never falls as the window grows, so that no window closes below
-// the work.
-fn window_end(table: &[u8], tasks: &[Vec<Record>]) -> u64 {
+// Where the search for a window stops, or a window from which on it could not be paid. Work never falls as the
+// window grows, so that no window closes below the work.
+fn window_end(table: &[u8], tasks: &[Vec<Record>], most: u64) -> u64 {
     let mut w = 1;
     for _ in 0..300 {
         let work: u64 = (0..tasks.len() as u64)
             .map(|k| second::work(table, k, w).unwrap_or(0))
             .sum();
-        if work <= w || LIMIT <= w {
+        if work <= w || LIMIT <= w || search(tasks, w) > most as f64 {
             return w;
         }
         w = work.min(LIMIT);
@@ -66,17 +66,15 @@ fn some_overload(table: &[u8], tasks: &[Vec<Record>], most: u64) -> Option<u64> 
         .collect();
     tries.sort_unstable();
     tries.dedup();
-    let payable = tries.into_iter().take_while(|&t| search(tasks, t) <= most as f64);
-    payable
-        .into_iter()
-        .find(|&t| second::margin(table, t).is_ok_and(|m| m < 0))
+    let mut payable = tries.into_iter().take_while(|&t| search(tasks, t) <= most as f64);
+    payable.find(|&t| second::margin(table, t).is_ok_and(|m| m < 0))
 }
 
 impl Cost {
     /// The costs of a good table, where a question may cost so much at most.
     pub fn of(table: &[u8], most: u64) -> Cost {
         let tasks = tasks_of(table);
-        let window_end = window_end(table, &tasks);
+        let window_end = window_end(table, &tasks, most);
         let overload = some_overload(table, &tasks, most);
         let verdict_end = window_end.min(overload.unwrap_or(LIMIT));
         Cost {

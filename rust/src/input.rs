@@ -86,7 +86,7 @@ fn hex(digits: &str) -> Result<Vec<u8>, String> {
     let mut high: Option<(u8, usize)> = None;
     for (i, c) in digits.chars().enumerate() {
         let place = i + 1;
-        if c.is_whitespace() {
+        if c.is_ascii_whitespace() {
             continue;
         }
         let Some(digit) = c.to_digit(16) else {

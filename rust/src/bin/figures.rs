@@ -75,8 +75,8 @@ fn median(mut all: Vec<f64>) -> f64 {
 
 // A row of the table: the two programs in turn, round by round, so that both meet the same load of the
 // machine.
-fn row(name: &str, first: &mut dyn FnMut() -> usize, second: &mut dyn FnMut() -> usize) {
-    let rounds: Vec<(f64, f64)> = (0..ROUNDS).map(|_| (round(first), round(second))).collect();
+fn row(name: &str, rounds: usize, first: &mut dyn FnMut() -> usize, second: &mut dyn FnMut() -> usize) {
+    let rounds: Vec<(f64, f64)> = (0..rounds).map(|_| (round(first), round(second))).collect();
     let one = median(rounds.iter().map(|r| r.0).collect());
     let two = median(rounds.iter().map(|r| r.1).collect());
     let ratio = median(rounds.iter().map(|r| r.0 / r.1).collect());
@@ -100,9 +100,13 @@ fn verdicts(name: &str, said: u8, tables: &[Vec<u8>]) {
         let verdict = boundary::verdict(table).expect("the table is good").verdict;
         assert_eq!(verdict, said, "{name}: {table:?}");
     }
+    timed(name, ROUNDS, tables);
+}
+
+fn timed(name: &str, rounds: usize, tables: &[Vec<u8>]) {
     let mut first = || each(tables, boundary::verdict);
     let mut second = || each(tables, second::verdict);
-    row(name, &mut first, &mut second);
+    row(name, rounds, &mut first, &mut second);
 }
 
 // The ticks of a full list of 128 requests, from its loading to its end.
@@ -132,7 +136,7 @@ fn ticks() {
         }
         state.tick as usize + 1
     };
-    row("a tick, 128 requests", &mut first, &mut second);
+    row("a tick, 128 requests", ROUNDS, &mut first, &mut second);
 }
 
 fn main() {
@@ -152,10 +156,11 @@ fn main() {
         &tables(&LATE_OVERLOAD),
     );
     verdicts("a verdict, undecided", boundary::UNDECIDED, &tables(&UNDECIDED));
+    timed("the verdict of (2,65535,1), once", 1, &[table(&[(2, 65_535, 1)])]);
     ticks();
     println!();
     println!(
-        "Each number is the median of {ROUNDS} rounds of at least {} ms over three or four tables of the kind, the two \
+        "Each number but that of (2,65535,1) is the median of {ROUNDS} rounds of at least {} ms over three or four tables of the kind, the two \
          programs in turn within a round, in one run of `cargo run --release --bin figures`; the ratio is the median of \
          the rounds' ratios. The second program looks at every t to the limit before it says *fits* or *undecided*.",
         LEAST_ROUND.as_millis()

@@ -160,9 +160,10 @@ fn main() {
     ticks();
     println!();
     println!(
-        "Each number but that of (2,65535,1) is the median of {ROUNDS} rounds of at least {} ms over three or four tables of the kind, the two \
-         programs in turn within a round, in one run of `cargo run --release --bin figures`; the ratio is the median of \
-         the rounds' ratios. The second program looks at every t to the limit before it says *fits* or *undecided*.",
+        "Each number but that of (2,65535,1) is the median of {ROUNDS} rounds of at least {} ms over three or four \
+         tables of the kind, the two programs in turn within a round, in one run of \
+         `cargo run --release --bin figures`; the ratio is the median of the rounds' ratios. The second program \
+         looks at every t to the limit before it says *fits* or *undecided*.",
         LEAST_ROUND.as_millis()
     );
 }

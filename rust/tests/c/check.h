@@ -57,55 +57,60 @@ static inline void check_number(struct site at, int64_t found, int64_t wanted)
     same(at, "the number", found, wanted);
 }
 
-static inline void check_shape(struct site at, struct limpidorsa_shape found, struct limpidorsa_refusal no, size_t tasks,
-                        size_t records)
+static inline void check_shape(struct site at, struct limpidorsa_shape found, struct limpidorsa_refusal no,
+                               size_t tasks, size_t records)
 {
     REFUSAL(no), FIELD(tasks, tasks), FIELD(records, records);
 }
 
-static inline void check_amount(struct site at, struct limpidorsa_amount found, struct limpidorsa_refusal no, uint64_t amount)
+static inline void check_amount(struct site at, struct limpidorsa_amount found, struct limpidorsa_refusal no,
+                                uint64_t amount)
 {
     REFUSAL(no), FIELD(amount, amount);
 }
 
-static inline void check_margin(struct site at, struct limpidorsa_margin found, struct limpidorsa_refusal no, int64_t margin)
+static inline void check_margin(struct site at, struct limpidorsa_margin found, struct limpidorsa_refusal no,
+                                int64_t margin)
 {
     REFUSAL(no), FIELD(margin, margin);
 }
 
-static inline void check_window(struct site at, struct limpidorsa_window found, struct limpidorsa_refusal no, bool closes,
-                         uint64_t window)
+static inline void check_window(struct site at, struct limpidorsa_window found, struct limpidorsa_refusal no,
+                                bool closes, uint64_t window)
 {
     REFUSAL(no), FIELD(closes, closes), FIELD(window, window);
 }
 
 /* Of the start frames only the first is ever above 0 here; the other fifteen have to be 0. */
 static inline void check_verdict(struct site at, struct limpidorsa_verdict found, struct limpidorsa_refusal no,
-                          uint8_t verdict, uint64_t t, int64_t margin, uint64_t window, uint8_t first_start)
+                                 uint8_t verdict, uint64_t t, int64_t margin, uint64_t window,
+                                 uint8_t first_start)
 {
     REFUSAL(no), FIELD(verdict, verdict), FIELD(t, t), FIELD(margin, margin), FIELD(window, window);
     for (int i = 0; i < 16; i++)
         FIELD(starts[i], i == 0 ? first_start : 0);
 }
 
-static inline void check_response(struct site at, struct limpidorsa_response found, struct limpidorsa_refusal no, bool late,
-                           uint64_t value, uint64_t round)
+static inline void check_response(struct site at, struct limpidorsa_response found, struct limpidorsa_refusal no,
+                                  bool late, uint64_t value, uint64_t round)
 {
     REFUSAL(no), FIELD(late, late), FIELD(value, value), FIELD(round, round);
 }
 
-static inline void check_written(struct site at, struct limpidorsa_written found, struct limpidorsa_refusal no, size_t bytes)
+static inline void check_written(struct site at, struct limpidorsa_written found, struct limpidorsa_refusal no,
+                                 size_t bytes)
 {
     REFUSAL(no), FIELD(bytes, bytes);
 }
 
-static inline void check_listed(struct site at, struct limpidorsa_listed found, struct limpidorsa_refusal no, size_t records)
+static inline void check_listed(struct site at, struct limpidorsa_listed found, struct limpidorsa_refusal no,
+                                size_t records)
 {
     REFUSAL(no), FIELD(records, records);
 }
 
-static inline void check_ending(struct site at, struct limpidorsa_ending found, struct limpidorsa_refusal no, bool missed,
-                         uint32_t tick, size_t index)
+static inline void check_ending(struct site at, struct limpidorsa_ending found, struct limpidorsa_refusal no,
+                                bool missed, uint32_t tick, size_t index)
 {
     REFUSAL(no), FIELD(missed, missed), FIELD(tick, tick), FIELD(index, index);
 }
@@ -119,8 +124,8 @@ static inline void check_state(struct site at, struct limpidorsa_state found, st
     }
 }
 
-static inline void check_loaded(struct site at, struct limpidorsa_loaded found, struct limpidorsa_refusal no, size_t records,
-                         struct limpidorsa_state state)
+static inline void check_loaded(struct site at, struct limpidorsa_loaded found, struct limpidorsa_refusal no,
+                                size_t records, struct limpidorsa_state state)
 {
     REFUSAL(no), FIELD(records, records);
     check_state(at, found.state, state);

@@ -32,8 +32,8 @@ static const uint8_t TWO[] = {FRAME(0, 1, 1, 1, 1), FRAME(1, 1, 1, 1, 1)};
 static const uint8_t LONGEST[] = {FRAME(0, 1, 65535, 65535, 65535)};
 static const uint8_t LIMIT[] = {FRAME(0, 1, 32769, 65535, 1)};
 
-/* Overloaded at 65,536 with margin -2, as LIMIT is, and undecided, as (21846,65535,1) is. A verdict on document 01's own
- * two takes seconds, for a request comes at every tick; of these there are at most two. */
+/* Overloaded at 65,536 with margin -2, as LIMIT is, and undecided, as (21846,65535,1) is. A verdict on those two takes
+ * seconds, for a request comes at every tick; here at most two come. */
 static const uint8_t LIMIT_OF_TWO[] = {FRAME(0, 3, 32769, 65535, 1), FRAME(0, 3, 32769, 65535, 65535)};
 static const uint8_t UNDECIDED[] = {FRAME(0, 1, 65535, 65535, 40000)};
 

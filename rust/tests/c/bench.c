@@ -113,7 +113,7 @@ static void foreign_states(void)
     wanted.tick = UINT32_MAX;
     CHECK(state, limpidorsa_tick(wanted), wanted);
 
-    /* A bench that runs has no record that missed: whatever its index is, it comes back as 0, past the last tick too. */
+    /* A bench that runs has no record that missed: whatever its index is, 0 comes back, past the last tick too. */
     struct limpidorsa_state with_index = wanted;
     with_index.index = 9;
     CHECK(state, limpidorsa_tick(with_index), wanted);

@@ -5,10 +5,12 @@
  * 8 bytes: task, frame, two zero bytes, then the arrival, 32 bits, low byte first. docs/01-scope.md has the rules.
  *
  * Any bytes may be handed in, and any numbers. Each call answers, or refuses with one number of document 01's table.
- * A slice is a pointer and the number of bytes that it points to. The pointer is not NULL, even where that number is 0.
- * The bytes are only read, but for the buffer of limpidorsa_overload, and nothing is kept after the call: no function
- * allocates, prints or calls the system, and calls may run side by side on several threads. The buffer must not overlap
- * the table.
+ * Of the caller is asked: a slice is a pointer, not NULL even where the length is 0, and as many bytes as its length
+ * says; and the buffer of limpidorsa_overload overlaps nothing else that is handed in. Only that buffer is written to,
+ * and nothing is kept after a call. How long an answer takes is not promised: a verdict walks t by t and frame by
+ * frame, and takes seconds where P is very short and no window closes early, with many such frames minutes.
+ *
+ * Functions and answers share their names; in C++ too an answer's type is written with `struct` before it.
  */
 #ifndef LIMPIDORSA_H
 #define LIMPIDORSA_H
@@ -140,7 +142,8 @@ struct limpidorsa_verdict limpidorsa_verdict(const uint8_t *table, size_t table_
 struct limpidorsa_response limpidorsa_response(const uint8_t *table, size_t table_len, uint64_t task, uint64_t frame);
 
 /* Writes the overload list of the table into the buffer, from the place on; bytes before it and after the list stay.
- * Refuses with 13, then 12, and then changes no byte. The longest list has 4,193,792 bytes. */
+ * Refuses with 13, then 12. A call that is refused, with whatever number, changes no byte. 8,388,608 bytes are enough
+ * for any list: 16 tasks, an arrival of each at 0 to 65,535, 8 bytes. */
 struct limpidorsa_written limpidorsa_overload(const uint8_t *table, size_t table_len, uint8_t *buffer,
                                               size_t buffer_len, size_t place);
 
@@ -155,7 +158,7 @@ struct limpidorsa_ending limpidorsa_replay(const uint8_t *table, size_t table_le
 struct limpidorsa_loaded limpidorsa_load(const uint8_t *table, size_t table_len, const uint8_t *list, size_t list_len);
 
 /* One tick of the bench, of any state. A state whose outcome is not LIMPIDORSA_RUNNING comes back unchanged, and so
- * does one past tick 131,070. A bench that was loaded stops within 131,071 calls. */
+ * does one past tick 131,070. A bench that was loaded stops within 131,071 calls, and holds its answer then. */
 struct limpidorsa_state limpidorsa_tick(struct limpidorsa_state state);
 
 #ifdef __cplusplus

@@ -2,7 +2,8 @@
 -- Assumes nothing.
 use mathlib.Core.Bool.{cond}
 use Prim.Native.Nat.{ℕ}
-use lib.Dec.{eqb}
+use lib.Dec.{eqb, ltb}
+use Rattle.model.specs.Replay.{last-tick}
 use Rattle.bench.specs.declared.state.Bench.{Bench}
 use Rattle.bench.specs.declared.state.Outcome.{Outcome}
 use Rattle.bench.specs.declared.state.Outcome.the-variants.{Running, Missed, AllMet}
@@ -40,10 +41,11 @@ abbrev pub running : State → Bench
 running s =
     record { tick = s .tick; left = s .left; due = s .due; arrive = s .arrive; task = s .task; outcome = Running }
 
--- "Each tick takes a bench state and hands back the next"; "A stopped bench .. comes back from a tick unchanged", and
--- every outcome but 0 is a bench that has stopped
+-- "A stopped bench .. comes back from a tick unchanged", and every outcome but 0 is a bench that has stopped; "and so
+-- does a state past that last tick". Else "Each tick takes a bench state and hands back the next"
 unfoldable pub flat-tick : State → State
-flat-tick s = cond (eqb (s .outcome) 0) (flat-bench (tick-of (running s))) s
+flat-tick s =
+    cond (eqb (s .outcome) 0) (cond (ltb last-tick (s .tick)) s (flat-bench (tick-of (running s)))) s
 
 unfoldable pub flat-loaded : desk.Loaded → Loaded
 flat-loaded l =

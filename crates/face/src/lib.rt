@@ -16,6 +16,7 @@ use answers::State;
 use answers::Verdict;
 use answers::Window;
 use answers::Written;
+use bench::state::LAST_TICK;
 ghost use mathlib.Core.Path.{_≡_};
 ghost use Rattle.table.specs.Reader.{reading-of};
 ghost use Rattle.desk.specs.Questions.{demand-asked, work-asked, margin-asked, window-asked, verdict-asked};
@@ -123,12 +124,15 @@ pub extern "C" fn limpidorsa_load<'a, 'b>(table: &'a [u8], list: &'b [u8]) -> Lo
     state::flat_loaded(desk::load(table, list))
 }
 
-// One tick of a bench, of any state.
+// One tick of a bench, of any state: one that has stopped, or is past the last tick, comes back unchanged.
 #[no_mangle]
 pub extern "C" fn limpidorsa_tick(state: State) -> State
     ensures { λ r. ⌜ r ≡ flat-tick state ⌝ }
 {
     if state.outcome != RUNNING {
+        return state;
+    }
+    if LAST_TICK < state.tick {
         return state;
     }
     state::flat_bench(state::running(state).tick())

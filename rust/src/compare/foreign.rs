@@ -82,13 +82,27 @@ fn state(rng: &mut Rng) -> State {
     s
 }
 
+// What the second program makes of a state. It knows no outcome's number and no index of a bench that runs: a state
+// that it hands back as it was is the same in every field.
+fn ticked(before: &State) -> State {
+    let Some(held) = expected::held(before) else {
+        return *before;
+    };
+    let after = second::tick(held.clone());
+    if after == held {
+        *before
+    } else {
+        expected::state(&after)
+    }
+}
+
 /// Some ticks of a random state. A bench that has stopped, by whatever number, comes back as it is.
 pub fn ticks(ask: &mut Ask) -> Same<()> {
     let mut one = state(&mut ask.rng);
     for _ in 0..3 {
         let before = one;
         one = ask.first.tick(before);
-        let two = expected::held(&before).map_or(before, |held| expected::state(&second::tick(held)));
+        let two = ticked(&before);
         same_state(ask, &before, &one, &two)?;
         if before.outcome != RUNNING {
             same_state(ask, &before, &one, &before)?;

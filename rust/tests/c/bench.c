@@ -113,10 +113,13 @@ static void foreign_states(void)
     wanted.tick = UINT32_MAX;
     CHECK(state, limpidorsa_tick(wanted), wanted);
 
-    /* A bench that runs has no record that missed: whatever its index is, 0 comes back, past the last tick too. */
+    /* Past the last tick no field changes. Before that a bench that runs on has no record that missed: index is 0. */
     struct limpidorsa_state with_index = wanted;
     with_index.index = 9;
-    CHECK(state, limpidorsa_tick(with_index), wanted);
+    CHECK(state, limpidorsa_tick(with_index), with_index);
+    with_index = state;
+    with_index.index = 9;
+    CHECK(state, limpidorsa_tick(with_index), limpidorsa_tick(state));
 
     /* Of two that are late, the record with the lower index is named. */
     state.due[126] = 0;

@@ -1,7 +1,9 @@
--- `limpidorsa_tick` meets its contract: a bench that has stopped comes back, one that runs is ticked.
+-- `limpidorsa_tick` meets its contract: a bench that has stopped or is past the last tick comes back, any other is
+-- ticked.
 -- Assumes nothing.
 use borrow.Author.Needs.{needs}
-use Rattle.face.proofs.StateLaws.{tick-stopped, tick-running}
+use Rattle.model.specs.Replay.{last-tick}
+use Rattle.face.proofs.StateLaws.{tick-stopped, tick-past, tick-running}
 use Rattle.face.proofs.limpidorsa_tick.Statement.{statement}
 use Rattle.face.proofs.limpidorsa_tick.Tie as tie
 
@@ -9,11 +11,17 @@ returns : tie.Need-returns
 returns c = tick-stopped _ (c .if1 .taken)
 
 returns-2 : tie.Need-returns-2
-returns-2 c =
+unfolding last-tick
+returns-2 c = tick-past _ (search needs) (c .if2 .taken)
+
+returns-3 : tie.Need-returns-3
+unfolding last-tick
+returns-3 c =
     let ticked = c .before .tick in
-    tick-running _ (search needs) (c .before .before .running .ensures) (ticked .ensures) (c .flat-bench .ensures)
+    tick-running _ (search needs) (search needs) (c .before .before .running .ensures) (ticked .ensures)
+    (c .flat-bench .ensures)
 
 pub limpidorsa-tick-spec : {M : Type 1} → statement M
 limpidorsa-tick-spec =
     tie.close
-    (tie.spec returns (λ c κs. search needs) (λ c κs. search needs) (λ c κs. search needs) returns-2)
+    (tie.spec returns returns-2 (λ c κs. search needs) (λ c κs. search needs) (λ c κs. search needs) returns-3)

@@ -12,10 +12,13 @@ use source::Language;
 const HEADER: &str = "crates/face/limpidorsa.h";
 const RUST: &str = "rust/src/boundary.rs";
 
+/// What a caller sees of Rattle: structs and constants.
+const ANSWERS: &str = "crates/face/src/answers.rt";
+
 /// The Rattle source, in the header's order of structs. The refusal comes from the table's reader.
 const RATTLE: [&str; 5] = [
     "crates/table/src/reader.rt",
-    "crates/face/src/answers.rt",
+    ANSWERS,
     "crates/face/src/state.rt",
     "crates/face/src/flat.rt",
     "crates/face/src/lib.rt",
@@ -52,9 +55,13 @@ fn rattle_face() -> Result<Face, String> {
     let mut face = Face::default();
     for file in RATTLE {
         let mut lines = lines_of(file, &text_of(file));
-        // Of the table's reader the boundary has the refusal; its other constants are its own.
+        // Of the table's reader the boundary has the refusal; its other constants are its own. So is what a file uses,
+        // but for the one with all that a caller sees.
         if file == RATTLE[0] {
             lines.retain(|line| !line.text.starts_with("pub const "));
+        }
+        if file != ANSWERS {
+            lines.retain(|line| !line.text.starts_with("use "));
         }
         source::read(&mut face, &lines, Language::Rattle, &imported)?;
     }
@@ -96,13 +103,11 @@ fn the_rust_declarations_agree_with_rattle() {
 // The reader takes any `Refusal` for that of table::reader, so the source has to.
 #[test]
 fn the_refusal_is_the_table_readers() {
-    for file in ["crates/face/src/answers.rt", "crates/face/src/state.rt"] {
-        let text = text_of(file);
-        assert!(
-            text.lines().any(|line| line == "use table::reader::Refusal;"),
-            "{file}"
-        );
-    }
+    let text = text_of(ANSWERS);
+    assert!(
+        text.lines().any(|line| line == "use table::reader::Refusal;"),
+        "{ANSWERS}"
+    );
 }
 
 #[test]

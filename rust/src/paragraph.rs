@@ -57,8 +57,9 @@ pub fn paragraph(j: &Judged) -> String {
 }
 
 const UNDECIDED: &str = "The desk looks at up to 65,536 ticks, and promises neither way here: in no interval up to \
-    there does more work fall due than it has ticks, but in every window up to there more work can arrive than it has \
-    ticks. The load is full, above that, or close to it. Make an E less or a P greater, and judge again.";
+    there can more work arrive and fall due than it has ticks, but in every window up to there more work can arrive \
+    than it has ticks. The load may be full, above that, or close to it; or much work can come in a burst and is due \
+    late. Make an E less or a P greater, and judge again.";
 
 fn ticks(many: u64) -> String {
     count(many, "tick")

@@ -62,6 +62,22 @@ fn an_undecided_table() {
     );
 }
 
+// Fourteen frames of E 5,000 may come within 14 ticks, and the two after them keep the load at 0.36.
+#[test]
+fn an_undecided_table_of_low_load() {
+    let (heavy, light) = ([0, 3, 0x88, 0x13, 255, 255], [0, 3, 1, 0, 255, 255]);
+    let mut table = [&heavy[..], &[1, 0]].concat().repeat(13);
+    table.extend([&heavy[..], &[255, 255]].concat());
+    table.extend([&light[..], &[255, 255]].concat().repeat(2));
+    let text = fed(&["judge", "-"], &table).out.replace('\n', " ");
+    let load =
+        "The load may be full, above that, or close to it; or much work can come in a burst and is due late.";
+    assert!(
+        text.starts_with("standard input: undecided (1 task, 16 records). ") && text.contains(load),
+        "{text}"
+    );
+}
+
 #[test]
 fn refused_tables() {
     assert_eq!(

@@ -107,13 +107,13 @@ fn overloaded(v: &Verdict, table: &[u8], records: &[Record]) -> String {
         ticks(too_much(v))
     );
     match overload_list(table) {
-        Ok(list) => format!("{claim} {}", shown_by(&list, table, records)),
+        Ok(list) => format!("{claim} {}", shown_by(&list, v.t, table, records)),
         Err(no) => format!("{claim} Its list was refused: {}.", refusals::when(no.number)),
     }
 }
 
-// The first requests of the list that shows an overload, and what becomes of it.
-fn shown_by(list: &[u8], table: &[u8], records: &[Record]) -> String {
+// The first requests of the list that shows an overload at t, and what becomes of it.
+fn shown_by(list: &[u8], t: u64, table: &[u8], records: &[Record]) -> String {
     const FIRST: usize = 4;
     let requests = records::of_list(list);
     let first: Vec<String> = requests.iter().take(FIRST).map(|r| request(r, records)).collect();
@@ -125,7 +125,7 @@ fn shown_by(list: &[u8], table: &[u8], records: &[Record]) -> String {
         "A legal list of {} shows it: {}{more}. {}",
         count(requests.len() as u64, "request"),
         first.join("; "),
-        replayed(&requests, list, table)
+        replayed(&requests, t, list, table)
     )
 }
 
@@ -142,11 +142,13 @@ fn request(r: &Request, records: &[Record]) -> String {
     )
 }
 
-fn replayed(requests: &[Request], list: &[u8], table: &[u8]) -> String {
+// Too much of the list is due by t, so a longer list is known to miss by then, replayed or not.
+fn replayed(requests: &[Request], t: u64, list: &[u8], table: &[u8]) -> String {
     if requests.len() > SLOTS {
         return format!(
-            "That is longer than the bench takes, {SLOTS} records, so it is not replayed here; no schedule can finish \
-             it all the same."
+            "That is longer than the bench takes, {SLOTS} records, so it is not replayed here; but under any schedule \
+             one of its requests that are due by tick {} misses its deadline.",
+            grouped(t)
         );
     }
     match boundary::replay(table, list) {

@@ -16,6 +16,7 @@ pub mod paragraph;
 pub mod progress;
 pub mod records;
 pub mod refusals;
+pub mod refused;
 pub mod second;
 pub mod steps;
 pub mod trace;

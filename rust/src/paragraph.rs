@@ -1,10 +1,10 @@
 //! A verdict in plain words: a paragraph, and a line for where there are many.
 use crate::ask::overload_list;
 use crate::boundary::{self, No, Verdict, FITS, OVERLOADED, SLOTS};
-use crate::input::MOST;
 use crate::output::{count, grouped};
-use crate::records::{self, Record, Request, SIZE};
+use crate::records::{self, Record, Request};
 use crate::refusals;
+use crate::refused;
 
 /// A table and the verdict on it.
 pub struct Judged {
@@ -15,12 +15,7 @@ pub struct Judged {
 /// The verdict on one line.
 pub fn line(j: &Judged) -> String {
     match &j.verdict {
-        Err(no) => format!(
-            "refused {}{}: {}",
-            no.number,
-            place(*no),
-            refusals::when(no.number)
-        ),
+        Err(no) => refused::line(*no),
         Ok(v) => match v.verdict {
             OVERLOADED => format!("overloaded at t = {} by {}", grouped(v.t), ticks(too_much(v))),
             FITS => {
@@ -39,7 +34,7 @@ pub fn line(j: &Judged) -> String {
 /// The verdict as a paragraph, not yet broken into lines.
 pub fn paragraph(j: &Judged) -> String {
     match &j.verdict {
-        Err(no) => refused(*no, &j.table),
+        Err(no) => format!("{}. {}", refused::line(*no), refused::found(*no, &j.table, &[])),
         Ok(v) => {
             let records = records::of_table(&j.table);
             let size = format!(
@@ -165,52 +160,4 @@ fn replayed(requests: &[Request], t: u64, list: &[u8], table: &[u8]) -> String {
         Ok(e) => format!("Replayed, all were met at tick {}.", grouped(u64::from(e.tick))),
         Err(no) => format!("Its replay was refused: {}.", refusals::when(no.number)),
     }
-}
-
-// Where a refusal points, unless it is about the length.
-fn place(no: No) -> String {
-    match no.number {
-        1 => String::new(),
-        _ => format!(" at record {}", no.index),
-    }
-}
-
-fn refused(no: No, table: &[u8]) -> String {
-    let what = match records::of_table(table).get(no.index) {
-        Some(record) if no.number != 1 => at_record(no.index, record, table),
-        _ => format!("It has {}{}.", count(table.len() as u64, "byte"), or_more(table)),
-    };
-    format!(
-        "refused {}{}: {}. {what} 'limpidorsa explain {}' has an example.",
-        no.number,
-        place(no),
-        refusals::when(no.number),
-        no.number
-    )
-}
-
-// A longer file is not read to its end.
-fn or_more(table: &[u8]) -> &'static str {
-    if table.len() as u64 >= MOST {
-        " or more"
-    } else {
-        ""
-    }
-}
-
-fn at_record(index: usize, r: &Record, table: &[u8]) -> String {
-    let from = index * SIZE;
-    let bytes: Vec<String> = table[from..from + SIZE]
-        .iter()
-        .map(|b| format!("{b:02x}"))
-        .collect();
-    format!(
-        "Record {index} (counted from 0) begins at byte {from} and is {}: task {}, kind {}, E {}, D {}, P {}.",
-        bytes.join(" "),
-        r.task,
-        r.kind,
-        r.e,
-        r.d,
-        r.p
-    )
 }

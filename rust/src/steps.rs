@@ -7,6 +7,7 @@ use crate::lines;
 use crate::output::{count, grouped, wrapped, Out};
 use crate::records::{self, Request};
 use crate::refusals;
+use crate::refused;
 
 pub fn steps(words: &[String], out: &mut Out) -> Result<u8, String> {
     expect_words("steps", &["TABLE", "LIST"], words)?;
@@ -15,14 +16,9 @@ pub fn steps(words: &[String], out: &mut Out) -> Result<u8, String> {
     let list = input.bytes(&words[1])?;
     let (text, status) = match boundary::load(&table, &list) {
         Err(no) => {
-            let (refused, status) = lines::refusal(no);
-            let (when, number) = (refusals::when(no.number), no.number);
-            (
-                wrapped(&format!(
-                    "{refused}: {when}. 'limpidorsa explain {number}' has an example."
-                )),
-                status,
-            )
+            let (line, status) = lines::refusal(no);
+            let (when, found) = (refusals::when(no.number), refused::found(no, &table, &list));
+            (wrapped(&format!("{line}: {when}. {found}")), status)
         }
         Ok(loaded) => stepped(loaded.state, &records::of_list(&list)),
     };

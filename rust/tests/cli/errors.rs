@@ -150,7 +150,7 @@ fn input_without_end_is_refused() {
     assert!(
         said.out
             .replace('\n', " ")
-            .contains("It has 1,048,576 bytes or more."),
+            .contains("The table has 1,048,576 bytes or more."),
         "{}",
         said.out
     );

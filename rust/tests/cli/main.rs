@@ -5,3 +5,4 @@ mod files;
 mod people;
 mod program;
 mod questions;
+mod refused;

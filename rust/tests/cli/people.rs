@@ -3,7 +3,7 @@ use crate::program::{expect, fed, run};
 use limpidorsa::batch::words;
 
 // A paragraph as one line.
-fn judged(word: &str, status: i32) -> String {
+pub fn judged(word: &str, status: i32) -> String {
     let said = run(&["judge", word]);
     assert_eq!((said.err.as_str(), said.status), ("", status), "{word}");
     assert!(said.out.lines().all(|line| line.len() <= 80), "{}", said.out);
@@ -73,21 +73,6 @@ fn an_undecided_table_of_low_load() {
     assert!(
         text.starts_with("standard input: undecided (1 task, 16 records). ") && text.contains(load),
         "{text}"
-    );
-}
-
-#[test]
-fn refused_tables() {
-    assert_eq!(
-        judged("examples/65-records", 2),
-        "examples/65-records: refused 1: the table's length is 0, above 512 bytes, or not a multiple of 8. It has 520 \
-         bytes. 'limpidorsa explain 1' has an example."
-    );
-    assert_eq!(
-        judged("hex:0003010002000300 0003000002000200", 2),
-        "hex:0003010002000300 0003000002000200: refused 5 at record 1: E, D or P is zero. Record 1 (counted from 0) \
-         begins at byte 8 and is 00 03 00 00 02 00 02 00: task 0, kind 3, E 0, D 2, P 2. 'limpidorsa explain 5' has \
-         an example."
     );
 }
 
@@ -173,13 +158,6 @@ fn steps_of_a_list() {
         tick 5         miss: task 1 frame 0 (record 1) was due at 5 and has 1 unit left";
     expect(&["steps", "examples/K7-2-5-10", "lists/K7-2-5-10"], text, 1);
     expect(&["steps", "examples/A", "hex:"], "tick 0   all met", 0);
-    let text = "refused 11 1: a task's next request has the wrong frame, or comes sooner than P\n\
-        of the earlier frame after it. 'limpidorsa explain 11' has an example.";
-    expect(
-        &["steps", "examples/A", "hex:0001000000000000 0002000001000000"],
-        text,
-        2,
-    );
 }
 
 #[test]

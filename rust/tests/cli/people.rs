@@ -205,6 +205,7 @@ fn help_and_version() {
     ] {
         assert!(said.out.contains(word), "{word}");
     }
+    assert!(said.out.lines().all(|line| line.len() <= 100), "{}", said.out);
     for words in [&["-h"][..], &["--help"], &["verdict", "--help"]] {
         assert_eq!(run(words), said, "{words:?}");
     }

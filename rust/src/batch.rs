@@ -56,7 +56,7 @@ fn answer_bytes(line: &Option<Vec<u8>>) -> Line {
         Ok(text) => answer_line(text),
         Err(e) => (
             format!(
-                "error the line is not text: byte {} is not UTF-8",
+                "error the line is not text: byte {} is not UTF-8; write the line in UTF-8",
                 e.valid_up_to() + 1
             ),
             NOT_ASKED,
@@ -112,7 +112,7 @@ pub fn words(line: &str) -> Result<Vec<String>, String> {
         }
     }
     if let Some(q) = quote {
-        return Err(format!("a quote {q} is opened and not closed"));
+        return Err(format!("a quote {q} is opened and not closed; close it"));
     }
     words.extend(word);
     Ok(words)
@@ -133,7 +133,7 @@ mod tests {
         assert!(split(" \t").is_empty());
         assert_eq!(
             words("read 'a").unwrap_err(),
-            "a quote ' is opened and not closed"
+            "a quote ' is opened and not closed; close it"
         );
     }
 

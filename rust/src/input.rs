@@ -7,6 +7,9 @@ use std::io::{self, ErrorKind, Read};
 /// alone, 1 or 10, whatever they hold; so reading on would change no answer.
 pub const MOST: u64 = 1 << 20;
 
+// What to do, of a table and of a list, in a call and in a batch.
+const NAME_ONE: &str = "name another file, or write hex:BYTES";
+
 /// Where the bytes of one call come from.
 pub struct Input {
     standard: Standard,
@@ -35,6 +38,9 @@ impl Input {
 
     /// The bytes that a word names, or why there are none and what to do.
     pub fn bytes(&mut self, word: &str) -> Result<Vec<u8>, String> {
+        if word.is_empty() {
+            return Err(format!("a file's name is empty; {NAME_ONE}"));
+        }
         if word == "-" {
             return self.standard_input();
         }
@@ -71,9 +77,7 @@ fn bounded(from: impl Read) -> io::Result<Vec<u8>> {
 // Why a file could not be read, and what to do.
 fn reason(e: &io::Error) -> String {
     match e.kind() {
-        ErrorKind::NotFound => {
-            "there is no such file; name a table's file, '-' for standard input, or hex:BYTES".into()
-        }
+        ErrorKind::NotFound => format!("there is no such file; {NAME_ONE}"),
         ErrorKind::IsADirectory => "this is a directory; name the files in it".into(),
         ErrorKind::PermissionDenied => "no permission to read it; allow that, or name another file".into(),
         _ => format!("it cannot be read ({e}); name another file"),

@@ -27,11 +27,11 @@ fn bad_lines_in_between_stop_nothing() {
         "error the line is empty; write a command and its words",
         "error verdict: 0 words given; it is 'verdict TABLE'",
         "table tasks=1 records=1",
-        "error a quote ' is opened and not closed",
+        "error a quote ' is opened and not closed; close it",
         "error -: standard input holds the batch itself; name a file, or write hex:BYTES",
         "error judge: this command is not for a batch; give it to limpidorsa itself",
-        "error the line is not text: byte 1 is not UTF-8",
-        "error examples/Q: there is no such file; name a table's file, '-' for standard input, or hex:BYTES",
+        "error the line is not text: byte 1 is not UTF-8; write the line in UTF-8",
+        "error examples/Q: there is no such file; name another file, or write hex:BYTES",
         "miss tick=2 record=1",
     ];
     assert_eq!(answers, wanted);
@@ -89,10 +89,7 @@ fn control_signs_stay_on_one_line() {
     assert_eq!(batch(b"a\x0bb\x1b[2J\0c\n").0.len(), 1);
     assert_eq!(
         batch(b"read 'a\rb'\n").0,
-        [
-            "error a\\rb: there is no such file; name a table's file, '-' for \
-                standard input, or hex:BYTES"
-        ]
+        ["error a\\rb: there is no such file; name another file, or write hex:BYTES"]
     );
 }
 

@@ -5,7 +5,7 @@ use std::os::unix::ffi::OsStrExt;
 
 #[test]
 fn files_that_cannot_be_read() {
-    let what = "name a table's file, '-' for standard input, or hex:BYTES";
+    let what = "name another file, or write hex:BYTES";
     expect_error(
         &["read", "examples/Q"],
         &["limpidorsa: examples/Q: there is no such file; ", what],
@@ -24,6 +24,7 @@ fn files_that_cannot_be_read() {
     );
     expect_error(&["read", "a\nb"], &["a\\nb: there is no such file"]);
     expect_error(&["judge", "examples/Q"], &["examples/Q: there is no such file"]);
+    expect_error(&["judge", ""], &["limpidorsa: a file's name is empty; ", what]);
     expect_error(
         &["steps", "examples/A", "lists/Q"],
         &["lists/Q: there is no such file"],

@@ -18,7 +18,7 @@ pub fn refusal(no: No) -> Line {
     (format!("refused {} {}", no.number, no.index), REFUSED)
 }
 
-/// An answer that is no news, good or bad.
+/// An answer that is no bad news.
 pub fn fine(text: String) -> Line {
     (text, FINE)
 }

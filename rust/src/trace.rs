@@ -2,11 +2,11 @@
 use crate::bench;
 use crate::boundary::{self, Ending, No, State};
 
-/// FNV-1a, 64 bits.
-pub struct Digest(u64);
+// FNV-1a, 64 bits.
+struct Digest(u64);
 
 impl Digest {
-    pub fn new() -> Digest {
+    fn new() -> Digest {
         Digest(14695981039346656037)
     }
 
@@ -16,18 +16,12 @@ impl Digest {
         }
     }
 
-    /// Takes in a state: its tick, and what each record of the list has left.
+    // Takes in a state: its tick, and what each record of the list has left.
     fn state(&mut self, state: &State, records: usize) {
         self.bytes(&state.tick.to_le_bytes());
         state.left[..records]
             .iter()
             .for_each(|left| self.bytes(&left.to_le_bytes()));
-    }
-}
-
-impl Default for Digest {
-    fn default() -> Digest {
-        Digest::new()
     }
 }
 

@@ -49,6 +49,17 @@ fn an_overload_list_too_long_for_the_bench() {
     assert!(text.ends_with(ends), "{text}");
 }
 
+// (1,64,1) and (1,1,2): just as many as it takes.
+#[test]
+fn the_longest_overload_list_that_is_replayed() {
+    let text = judged("hex:0001010040000100 0101010001000200", 1);
+    assert!(text.contains("A legal list of 128 requests shows it: "), "{text}");
+    let ends =
+        "; and 124 more. Replayed under earliest deadline first, task 1 frame 0 (record 127) misses its \
+        deadline at tick 127.";
+    assert!(text.ends_with(ends), "{text}");
+}
+
 #[test]
 fn an_undecided_table() {
     let text = judged("hex:0001e903ffffe803", 1);

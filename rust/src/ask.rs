@@ -5,8 +5,8 @@ use crate::lines::{self, fine, unless_refused, Line};
 use crate::output::{grouped, shown};
 use crate::records;
 
-/// The longest overload list there is, in bytes: 524,224 records.
-const LONGEST_LIST: usize = 4_193_792;
+/// Room for any overload list: each of 16 tasks has at most one request at each arrival from 0 to 65,535.
+const ANY_LIST: usize = 16 * 65_536 * 8;
 /// The longest buffer that `overload` may be asked for.
 const LONGEST_BUFFER: u64 = 16_777_216;
 
@@ -208,8 +208,8 @@ fn every_response(table: &[u8]) -> Result<Vec<(u64, u64, Response)>, No> {
 fn overload(table: &[u8], length: u64, place: u64) -> Result<Line, String> {
     if length > LONGEST_BUFFER {
         return Err(format!(
-            "overload: BUFLEN is {length}; at most {LONGEST_BUFFER} can be asked for, and the longest list has {} bytes",
-            grouped(LONGEST_LIST as u64)
+            "overload: BUFLEN is {length}; at most {LONGEST_BUFFER} can be asked for, and any list goes into {} bytes",
+            grouped(ANY_LIST as u64)
         ));
     }
     let mut buffer = vec![0xee; length as usize];
@@ -221,7 +221,7 @@ fn overload(table: &[u8], length: u64, place: u64) -> Result<Line, String> {
 
 /// The overload list of a table, in a buffer that any list goes into.
 pub fn overload_list(table: &[u8]) -> Result<Vec<u8>, No> {
-    let mut buffer = vec![0; LONGEST_LIST];
+    let mut buffer = vec![0; ANY_LIST];
     let bytes = boundary::overload(table, &mut buffer, 0)?;
     buffer.truncate(bytes);
     Ok(buffer)

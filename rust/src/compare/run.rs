@@ -33,7 +33,7 @@ impl Found {
         self.cases += 1;
         self.counts.join(counts);
         if let Some(difference) = difference {
-            if self.difference.as_ref().map_or(true, |(other, _)| case < *other) {
+            if self.difference.as_ref().is_none_or(|(other, _)| case < *other) {
                 self.difference = Some((case, difference));
             }
         }

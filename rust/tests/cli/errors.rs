@@ -90,7 +90,7 @@ fn numbers_that_are_not() {
 fn a_buffer_that_is_too_long() {
     let what = [
         "BUFLEN is 16777217; at most 16777216",
-        "the longest list has 4,193,792 bytes",
+        "any list goes into 8,388,608 bytes",
     ];
     expect_error(&["overload", "examples/B", "16777217", "0"], &what);
     expect_error(

@@ -15,6 +15,8 @@ use Rattle.promise.proofs.OneAnswerLaws.{one-answer-each}
 use Rattle.promise.proofs.NamedLaws.{named-right}
 use Rattle.promise.proofs.CallerLaws.{callers}
 use Rattle.promise.proofs.BoundaryLaws.{boundary-each}
+use Rattle.promise.proofs.StepLaws.{stepped}
+use Rattle.promise.proofs.LostLaws.{nothing-lost}
 use Rattle.promise.proofs.ForeignLaws.{foreign}
 
 demands : (s : List ℕ) → Bytes s → Demands s
@@ -36,5 +38,7 @@ kept =
       named = named-right;
       callers = callers;
       boundary = boundary-each;
+      lost = nothing-lost;
+      stepped = stepped;
       foreign = foreign;
     }

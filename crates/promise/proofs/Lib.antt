@@ -28,4 +28,7 @@ pub mod BenchLaws
 pub mod BoundaryLaws
 pub mod NumberedLaws
 pub mod FlatRead
+pub mod FlatSaid
+pub mod StepLaws
+pub mod LostLaws
 pub mod ForeignLaws

@@ -1,5 +1,6 @@
 -- The three demands, in the user's order, and the promise that they are kept. What each part says is in Refusals,
--- Numbers, Bench, Promises, OneAnswer, Named and Callers, and for C and Rust in Boundary and Foreign.
+-- Numbers, Bench, Promises, OneAnswer, Named and Callers, and for C and Rust in Boundary, NothingLost
+-- and Foreign.
 -- Assumes nothing.
 use mathlib.Core.Path.{_≡_}
 use mathlib.Core.List.{List}
@@ -20,6 +21,7 @@ use Rattle.promise.specs.OneAnswer.{One-answer-each}
 use Rattle.promise.specs.Named.{Named-right}
 use Rattle.promise.specs.Callers.{Slice, Callers}
 use Rattle.promise.specs.Boundary.{Boundary-each}
+use Rattle.promise.specs.NothingLost.{Nothing-lost, Stepped}
 use Rattle.promise.specs.Foreign.{Foreign}
 
 pub record Demands (s : List ℕ) : Type 0 where
@@ -44,6 +46,9 @@ pub record Promised : Type 0 where
   pub named : Named-right
   -- the third demand from the contracts, for a caller of the code
   pub callers : (s : Slice) → Bytes (now s) → Callers s
-  -- the same of the boundary: what each exported function answers, and what its caller in C or Rust may rely on
+  -- the same of the boundary: what each exported function answers, that nothing of the desk's answer is lost there, and
+  -- what its caller in C or Rust may rely on
   pub boundary : Boundary-each
+  pub lost : (s : List ℕ) → Bytes s → Nothing-lost s
+  pub stepped : (b : Bench) → Stepped b
   pub foreign : (s : Slice) → Bytes (now s) → Foreign s

@@ -12,6 +12,9 @@ use Rattle.model.specs.Meaning.{Undecided}
 use Rattle.model.specs.Request.{Legal}
 use Rattle.model.specs.Answer.{Answer, refused}
 use Rattle.table.specs.TableOf.{table-of}
+use Rattle.table.specs.declared.reader.Refusal.{Refusal}
+use Rattle.table.specs.declared.reader.Reading.the-variants as reading
+use Rattle.table.specs.Reader.{reading-of}
 use Rattle.table.specs.Refusals as Table
 use Rattle.requests.specs.Entry.{list-of}
 use Rattle.desk.specs.Questions.{demand-asked, work-asked, margin-asked, window-asked, verdict-asked, list-asked, replay-asked, load-asked}
@@ -38,11 +41,17 @@ Writes s buffer place r after =
 abbrev pub Replays : Slice → Slice → Ending → Type 0
 Replays s list r = (κs : Lfts 2) × (x : Slice × (Slice × Unit {0})) × replay.Learnt κs (s, (list, tt)) r x
 
--- no refusal has the number 0, which a flat answer has where nothing was refused: a caller may test it for that
+-- a number of the document's table. It is not 0, which a flat answer has where nothing was refused: a caller may test
+-- it for that
+pub record Numbers-one (number : ℕ) : Type 0 where
+  pub from : 1 ≤ number
+  pub to : number ≤ 13
+
 abbrev pub Numbered : {A : Type 0} → Answer A → Type 0
-Numbered said = (number index : ℕ) → said ≡ refused number index → 1 ≤ number
+Numbered said = (number index : ℕ) → said ≡ refused number index → Numbers-one number
 
 pub record All-numbered (s : List ℕ) : Type 0 where
+  pub table : (x : Refusal) → reading-of s ≡ reading.Refused x → Numbers-one (x .number)
   pub demand : (k t : ℕ) → Numbered (demand-asked s k t)
   pub work : (k w : ℕ) → Numbered (work-asked s k w)
   pub margin : (t : ℕ) → Numbered (margin-asked s t)

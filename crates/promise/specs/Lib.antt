@@ -9,5 +9,7 @@ pub mod Asked
 pub mod Named
 pub mod Demands
 pub mod Cases
+pub mod ReadBack
+pub mod NothingLost
 pub mod Boundary
 pub mod Foreign

@@ -1,0 +1,60 @@
+-- A bench that is stepped from C or Rust is the desk's bench, after each tick.
+-- Assumes nothing.
+use mathlib.Core.Path.{_≡_, refl, sym, ap, _∙_}
+use mathlib.Core.Logic.{⊎-elim}
+use Prim.Native.Nat.{ℕ, zero, suc, _≤_}
+use native.Mathlib.Omega.{arith}
+use Rattle.laws.proofs.Cases.{lt-or-le}
+use Rattle.model.specs.Replay.{last-tick}
+use Rattle.bench.specs.declared.state.Bench.{Bench}
+use Rattle.bench.specs.declared.state.Outcome.{Outcome}
+use Rattle.bench.specs.declared.state.Outcome.the-variants.{Running, Missed, AllMet}
+use Rattle.bench.specs.Rule.{with-outcome, tick-of, run-of}
+use Rattle.bench.specs.Ticked.{Going}
+use Rattle.bench.proofs.OneUnit.{tick-stands}
+use Rattle.face.specs.State.{outcome-number, missed-record, flat-bench, flat-tick}
+use Rattle.face.proofs.StateLaws.{tick-stopped, tick-past, tick-running}
+use Rattle.promise.specs.ReadBack.{outcome-by, read-state}
+use Rattle.promise.specs.NothingLost.{Kept-by, flat-run, Stepped}
+
+outcome-kept : (o : Outcome) → outcome-by (outcome-number o) (missed-record o) ≡ o
+outcome-kept Running = refl
+outcome-kept (Missed index) = refl
+outcome-kept AllMet = refl
+
+module _ (b : Bench) where
+  state-kept : Kept-by flat-bench read-state b
+  unfolding flat-bench
+  state-kept = ap (with-outcome b) (outcome-kept (b .outcome))
+
+  -- one that does not go on comes back on both sides
+  stands : (Going b → ⊥) → flat-bench b ≡ flat-tick (flat-bench b) → flat-tick (flat-bench b) ≡ flat-bench (tick-of b)
+  stands still same = sym same ∙ ap flat-bench (sym (tick-stands b still))
+
+  stopped : 1 ≤ outcome-number (b .outcome) → flat-tick (flat-bench b) ≡ flat-bench (tick-of b)
+  unfolding flat-bench
+  stopped from =
+      stands (λ going. let runs = ap outcome-number (going .running) in omega arith)
+      (tick-stopped (flat-bench b) (λ runs. omega arith))
+
+  goes : b .outcome ≡ Running → flat-tick (flat-bench b) ≡ flat-bench (tick-of b)
+  unfolding flat-bench
+  goes runs =
+      let zero-is = ap outcome-number runs in
+      ⊎-elim
+      (λ past. stands (λ going. let in-time = going .in-time in omega arith) (tick-past (flat-bench b) zero-is past))
+      (λ within. sym (tick-running (flat-bench b) zero-is within (ap (with-outcome b) runs) refl refl))
+      (lt-or-le last-tick (b .tick))
+
+  by-outcome : (o : Outcome) → b .outcome ≡ o → flat-tick (flat-bench b) ≡ flat-bench (tick-of b)
+  by-outcome Running is = goes is
+  by-outcome (Missed index) is = let one = ap outcome-number is in stopped (omega arith)
+  by-outcome AllMet is = let two = ap outcome-number is in stopped (omega arith)
+
+run-kept : (n : ℕ) (b : Bench) → flat-run n (flat-bench b) ≡ flat-bench (run-of n b)
+unfolding run-of
+run-kept zero b = refl
+run-kept (suc n) b = ap (flat-run n) (by-outcome b (b .outcome) refl) ∙ run-kept n (tick-of b)
+
+pub stepped : (b : Bench) → Stepped b
+stepped b = record { state = state-kept b; steps = λ n. run-kept n b }

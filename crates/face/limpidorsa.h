@@ -5,10 +5,11 @@
  * 8 bytes: task, frame, two zero bytes, then the arrival, 32 bits, low byte first. docs/01-scope.md has the rules.
  *
  * Any bytes may be handed in, and any numbers. Each call answers, or refuses with one number of document 01's table.
- * Of the caller is asked: a slice is a pointer, not NULL even where the length is 0, and as many bytes as its length
- * says; and the buffer of limpidorsa_overload overlaps nothing else that is handed in. Only that buffer is written to,
- * and nothing is kept after a call. How long an answer takes is not promised: a verdict walks t by t and frame by
- * frame, and takes seconds where P is very short and no window closes early, with many such frames minutes.
+ * Of the caller is asked: a slice is a pointer, which must not be NULL even where the length is 0, and as many bytes as
+ * its length says; and the buffer of limpidorsa_overload must overlap nothing that this or another call is lent at that
+ * time. Only that buffer is written to, and nothing is kept after a call. How long an answer takes is not promised: a
+ * verdict walks t by t and frame by frame, and takes seconds where P is very short and no window closes early, with many
+ * such frames minutes.
  *
  * Functions and answers share their names; in C++ too an answer's type is written with `struct` before it.
  */
@@ -24,7 +25,8 @@ extern "C" {
 #endif
 
 /* A refusal's number, 1 to 13, and the index of the record that it carries; 0 and 0 where nothing was refused. Every
- * answer opens with one. Where its number is not 0, every other field of the answer is zero. */
+ * answer to a question opens with one. Where its number is not 0, every other field of the answer is zero; so is every
+ * field that an answer has no use for. Compare fields, not bytes: what lies between two fields may be anything. */
 struct limpidorsa_refusal {
     uint8_t number;
     size_t index;
@@ -59,7 +61,7 @@ struct limpidorsa_window {
 enum { LIMPIDORSA_OVERLOADED = 1, LIMPIDORSA_FITS = 2, LIMPIDORSA_UNDECIDED = 3 };
 
 /* Overloaded: the least t with a margin below zero, that margin, and the sixteen start frames, one for each task.
- * Fits: the closing window, the least margin up to it, and the first t that has it. Undecided: the rest is zero. */
+ * Fits: the closing window, the least margin up to it, and the first t that has it. verdict is 0 in a refusal. */
 struct limpidorsa_verdict {
     struct limpidorsa_refusal refusal;
     uint8_t verdict;

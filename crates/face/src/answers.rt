@@ -1,5 +1,6 @@
 // The answers of the boundary, laid flat: numbers and arrays of numbers only, in C's layout. Each stands in
-// limpidorsa.h, field by field. Where `refusal.number` is not 0 the question was refused, and every other field is 0.
+// limpidorsa.h, field by field. Where `refusal.number` is not 0 the question was refused, and every other field is
+// zero; so is every field that an answer has no use for.
 use bench::state::SLOTS;
 use table::reader::Refusal;
 
@@ -45,7 +46,7 @@ pub const FITS: u8 = 2;
 
 pub const UNDECIDED: u8 = 3;
 
-// Overloaded: `t`, its `margin`, the sixteen `starts`. Fits: `window`, the least `margin` and the first `t` that has it.
+// Overloaded: `t`, its `margin` and the sixteen `starts`. Fits: `window`, the least `margin`, the first `t` that has it.
 #[repr(C)]
 pub struct Verdict {
     pub refusal: Refusal,

@@ -59,7 +59,7 @@ fn options(words: &[String]) -> Result<Option<Options>, String> {
 
 fn go(options: &Options) -> ExitCode {
     let first = Proved {
-        line: |line| batch::answer_line(line).0,
+        line: batch::answer_line,
     };
     let start = Instant::now();
     let (found, whole) = match options.which {

@@ -21,6 +21,19 @@ pub struct Ask<'a> {
     pub list: Vec<u8>,
 }
 
+/// The exit status of an answer line: 1 for bad news, 2 for a refusal, 3 where it could not be asked.
+pub fn status_of(answer: &str) -> u8 {
+    let word = answer.split(' ').next().unwrap_or_default();
+    let late = answer.contains(":late/");
+    let missed = word == "trace" && answer.contains(" miss ");
+    match word {
+        "error" => 3,
+        "refused" => 2,
+        "overloaded" | "undecided" | "late" | "miss" => 1,
+        _ => u8::from(late || missed),
+    }
+}
+
 impl Ask<'_> {
     pub fn difference(&self, question: String, first: String, second: String) -> Difference {
         Difference {
@@ -87,11 +100,16 @@ impl Ask<'_> {
 
     /// A whole line. Where a line cannot be asked, what follows `error` is each program's own.
     pub fn line(&mut self, command: &'static str, line: &str) -> Same<()> {
-        let (first, second) = (self.first.line(line), second::answer(line));
+        let ((first, status), second) = (self.first.line(line), second::answer(line));
         let errors = first.starts_with("error") && second.starts_with("error");
         if !errors {
             self.equal(|| format!("the line: {line}"), &first, &second)?;
         }
+        self.equal(
+            || format!("the exit status of: {line}"),
+            &status,
+            &status_of(&second),
+        )?;
         self.counts.add(Section::Lines, command, 1);
         Ok(())
     }

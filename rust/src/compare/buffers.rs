@@ -1,7 +1,7 @@
 //! The overload list written into buffers of many lengths from many places, each with guard bytes on both
 //! sides.
 use super::ask::{Ask, Same};
-use super::counts::Section;
+use super::counts::{Section, LONG_LIST};
 use crate::second;
 
 const GUARD: usize = 24;
@@ -26,8 +26,7 @@ pub fn overload(ask: &mut Ask) -> Same<Option<Vec<u8>>> {
     }
     lines(ask, list.as_ref().map(Vec::len), once)?;
     if list.as_ref().is_some_and(|l| l.len() > 1_024) {
-        ask.counts
-            .add(Section::Compared, "overload lists above 128 records", 1);
+        ask.counts.add(Section::Compared, LONG_LIST, 1);
     }
     Ok(list)
 }

@@ -25,8 +25,14 @@ pub const VERDICTS: [&str; 3] = ["overloaded", "fits", "undecided"];
 pub const RESPONSES: [&str; 2] = ["on time", "late"];
 pub const ENDINGS: [&str; 2] = ["miss", "all met"];
 
+// What is seldom met, and so counted by itself.
+pub const AT_LAST_T: &str = "verdicts overloaded at 65,536";
+pub const NO_WINDOW: &str = "windows, none";
+pub const LONG_LIST: &str = "overload lists above 128 records";
+
 // What every run must meet, and how one of them is called.
-const MUST: [(Section, &str, &[&str]); 4] = [
+const MUST: [(Section, &str, &[&str]); 5] = [
+    (Compared, "any", &[AT_LAST_T, NO_WINDOW, LONG_LIST]),
     (Refusals, "refusal", &NUMBERS),
     (Verdicts, "verdict", &VERDICTS),
     (Responses, "response", &RESPONSES),
@@ -109,7 +115,7 @@ mod tests {
 
     #[test]
     fn empty_counts_have_met_nothing() {
-        assert_eq!(Counts::default().never_met().len(), 13 + 3 + 2 + 2);
+        assert_eq!(Counts::default().never_met().len(), 3 + 13 + 3 + 2 + 2);
     }
 
     #[test]

@@ -4,8 +4,8 @@ use crate::boundary::{self, Ending, Loaded, No, Response, Shape, State, Verdict}
 use std::ops::Range;
 
 pub trait First: Sync {
-    /// The answer line to a command line.
-    fn line(&self, line: &str) -> String;
+    /// The answer line to a command line, and its exit status.
+    fn line(&self, line: &str) -> (String, u8);
 
     fn read(&self, table: &[u8]) -> Result<Shape, No> {
         boundary::read(table)
@@ -48,11 +48,11 @@ pub trait First: Sync {
 
 /// The library as it is, with the function that answers a line.
 pub struct Proved {
-    pub line: fn(&str) -> String,
+    pub line: fn(&str) -> (String, u8),
 }
 
 impl First for Proved {
-    fn line(&self, line: &str) -> String {
+    fn line(&self, line: &str) -> (String, u8) {
         (self.line)(line)
     }
 }

@@ -6,7 +6,7 @@ use super::{damage, special, spoil, tables};
 pub type TableKind = (&'static str, fn(&mut Rng) -> Vec<u8>);
 pub type ListKind = (&'static str, fn(&mut Rng, &Tasks) -> Vec<u8>);
 
-pub const TABLES: [TableKind; 19] = [
+pub const TABLES: [TableKind; 20] = [
     ("near full load", tables::near_full_load),
     ("D above P", tables::d_above_p),
     ("E above D", tables::e_above_d),
@@ -20,6 +20,7 @@ pub const TABLES: [TableKind; 19] = [
     ("thick requests", tables::thick_requests),
     ("large numbers", tables::large_numbers),
     ("values at the edges", special::edges),
+    ("at the last t", special::at_the_last_t),
     ("of the document", special::of_the_document),
     ("one fault", damage::one_fault),
     ("two faults", damage::two_faults),

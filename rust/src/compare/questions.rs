@@ -1,9 +1,10 @@
 //! The questions about a table alone, asked of both programs.
 use super::ask::{Ask, Same};
 use super::cost::Cost;
-use super::counts::{Section, RESPONSES, VERDICTS};
+use super::counts::{Section, AT_LAST_T, NO_WINDOW, RESPONSES, VERDICTS};
 use super::expected;
 use super::record::tasks_of;
+use crate::boundary::OVERLOADED;
 use crate::second;
 
 /// Every question about the table. False where it was refused.
@@ -36,6 +37,9 @@ fn verdict(ask: &mut Ask) -> Same<Vec<u64>> {
     };
     ask.counts
         .add(Section::Verdicts, VERDICTS[answer.verdict as usize - 1], 1);
+    if answer.verdict == OVERLOADED && answer.t == 65_536 {
+        ask.counts.add(Section::Compared, AT_LAST_T, 1);
+    }
     if ask.rng.chance(50) && ask.pays("verdict", ask.cost.verdict()) {
         ask.table_line("verdict", &[])?;
     }
@@ -47,7 +51,9 @@ fn window(ask: &mut Ask) -> Same<()> {
         return Ok(());
     }
     let (first, said) = (ask.first.window(&ask.table), second::window(&ask.table));
-    ask.answers("window", &[], first, said)?;
+    if let Some(None) = ask.answers("window", &[], first, said)? {
+        ask.counts.add(Section::Compared, NO_WINDOW, 1);
+    }
     if ask.rng.chance(50) && ask.pays("window", ask.cost.window()) {
         ask.table_line("window", &[])?;
     }

@@ -5,6 +5,8 @@ use super::rng::Rng;
 
 const EDGES: [u16; 10] = [1, 2, 21_846, 32_767, 32_768, 32_769, 65_533, 65_534, 65_535, 3];
 
+const LAST_T: u32 = 65_536;
+
 /// E, D and P each at an edge of what they can be.
 pub fn edges(rng: &mut Rng) -> Vec<u8> {
     let mut all = Vec::new();
@@ -24,6 +26,18 @@ pub fn edges(rng: &mut Rng) -> Vec<u8> {
         }
     }
     table_of(&all)
+}
+
+/// A task of which one request falls due at the last t that is looked at. There it is an overload by a little, or just
+/// none; before that it is none, since P is at most E.
+pub fn at_the_last_t(rng: &mut Rng) -> Vec<u8> {
+    let due = rng.between(2, 8) as u16;
+    let share = (LAST_T / u32::from(due)) as u16;
+    let p = rng.between(2_000, u64::from(share)) as u16;
+    let d = (LAST_T - u32::from(due - 1) * u32::from(p)) as u16;
+    let e = share + rng.between(0, 2) as u16;
+    let (task, kind) = (0, 1);
+    table_of(&[Record { task, kind, e, d, p }])
 }
 
 // Task, kind, E, D, P.

@@ -2,7 +2,7 @@
 use super::rng::Rng;
 use super::sort::{build, Deadline, Sort, SMALL};
 
-/// Small, near full load: fits, overloaded and undecided all occur.
+/// Small, near full load: fits and overloaded both occur.
 pub fn near_full_load(rng: &mut Rng) -> Vec<u8> {
     let deadline = rng.pick(&[Deadline::Within, Deadline::Any]);
     build(rng, Sort { deadline, ..SMALL })

@@ -1,5 +1,6 @@
 //! The comparison is held to a first program that is wrong in one thing: it must stop there and say so.
 use crate::boundary::{self, No, Response, Shape, State, Verdict, RUNNING};
+use crate::compare::ask::status_of;
 use crate::compare::first::First;
 use crate::compare::run::{alone, run, Until};
 use crate::second;
@@ -18,6 +19,7 @@ pub enum Slip {
     StoppedTicks,
     Word,
     ErrorAnswered,
+    Status,
     Panic,
 }
 
@@ -25,12 +27,14 @@ pub enum Slip {
 pub struct Wrong(pub Slip);
 
 impl First for Wrong {
-    fn line(&self, line: &str) -> String {
+    fn line(&self, line: &str) -> (String, u8) {
         let said = second::answer(line);
+        let status = status_of(&said);
         match self.0 {
-            Slip::Word => said.replace("all-met", "all met"),
-            Slip::ErrorAnswered if said.starts_with("error") => "refused 1 0".to_string(),
-            _ => said,
+            Slip::Word => (said.replace("all-met", "all met"), status),
+            Slip::ErrorAnswered if said.starts_with("error") => ("refused 1 0".to_string(), status),
+            Slip::Status if said.starts_with("late") => (said, 0),
+            _ => (said, status),
         }
     }
     fn read(&self, table: &[u8]) -> Result<Shape, No> {
@@ -76,7 +80,7 @@ impl First for Wrong {
     }
 }
 
-const SLIPS: [(Slip, &str); 10] = [
+const SLIPS: [(Slip, &str); 11] = [
     (Slip::RefusedIndex, "read"),
     (Slip::MarginAtLimit, "margin with the numbers [65536]"),
     (Slip::LastStart, "verdict"),
@@ -87,6 +91,7 @@ const SLIPS: [(Slip, &str); 10] = [
     (Slip::StoppedTicks, "tick of the state"),
     (Slip::Word, "the line: "),
     (Slip::ErrorAnswered, "the line: "),
+    (Slip::Status, "the exit status of: "),
 ];
 
 #[test]

@@ -8,8 +8,8 @@
  * Of the caller is asked: a slice is a pointer, which must not be NULL even where the length is 0, and as many bytes as
  * its length says; and the buffer of limpidorsa_overload must overlap nothing that this or another call is lent at that
  * time. Only that buffer is written to, and nothing is kept after a call. How long an answer takes is not promised: a
- * verdict walks t by t and frame by frame, and takes seconds where P is very short and no window closes early, with many
- * such frames minutes.
+ * verdict walks t by t and frame by frame, and takes seconds where P is very short and no window closes early, with
+ * many such frames minutes.
  *
  * Functions and answers share their names; in C++ too an answer's type is written with `struct` before it.
  */

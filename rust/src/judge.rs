@@ -1,4 +1,5 @@
-//! `limpidorsa judge FILE..`: verdicts for people. One table gets a paragraph; of several each gets a line, and a total.
+//! `limpidorsa judge FILE..`: verdicts for people. One table gets a paragraph; of several each gets a line, with a
+//! total below them.
 use crate::boundary::{self, FITS, OVERLOADED, UNDECIDED};
 use crate::input::Input;
 use crate::lines::{self, unless_refused, NOT_ASKED};

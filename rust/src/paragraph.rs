@@ -84,9 +84,9 @@ fn fits(v: &Verdict) -> String {
         ),
     };
     format!(
-        "Every deadline is held in every legal request list, of any length, under earliest deadline first. The closing \
-         window is {w}: all tasks together bring at most {w} of work into it. The least margin up to there is {}, first \
-         at t = {}: {within}.",
+        "Every deadline is held in every legal request list, of any length, under earliest deadline first. The \
+         closing window is {w}: all tasks together bring at most {w} of work into it. The least margin up to there \
+         is {}, first at t = {}: {within}.",
         v.margin,
         grouped(v.t),
         w = ticks(v.window),
@@ -95,8 +95,8 @@ fn fits(v: &Verdict) -> String {
 
 fn overloaded(v: &Verdict, table: &[u8], records: &[Record]) -> String {
     let claim = format!(
-        "Requests that arrive and are due within {} can need {}: {} more than there is. No schedule whatever holds every \
-         deadline.",
+        "Requests that arrive and are due within {} can need {}: {} more than there is. No schedule whatever holds \
+         every deadline.",
         ticks(v.t),
         ticks(due(v)),
         ticks(too_much(v))

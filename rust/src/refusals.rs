@@ -97,8 +97,8 @@ pub const ALL: [Meaning; 13] = [
     },
     Meaning {
         number: 10,
-        when: "the list's length is not a multiple of 8 or above 1,024 bytes (then the index is 0); or a record's pad is \
-               not zero, its task or frame is unknown, its arrival is above 65,535, or the order is broken: records \
+        when: "the list's length is not a multiple of 8 or above 1,024 bytes (then the index is 0); or a record's pad \
+               is not zero, its task or frame is unknown, its arrival is above 65,535, or the order is broken: records \
                are sorted by arrival, at equal arrivals by strictly rising task number",
         index: IN_LIST,
         because: "a request of task 1, and the only task is task 0",
@@ -115,7 +115,8 @@ pub const ALL: [Meaning; 13] = [
     },
     Meaning {
         number: 12,
-        when: "the place lies past the buffer's end, or the overload list has more bytes than the buffer has from there",
+        when: "the place lies past the buffer's end, or the overload list has more bytes than the buffer has from \
+               there",
         index: NONE,
         because: "a list of 8 bytes from place 1 of a buffer of 8",
         command: r#"overload "hex:00 01 06 00 05 00 05 00" 8 1"#,

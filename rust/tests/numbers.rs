@@ -37,7 +37,8 @@ fn reordered(line: &str) -> Option<String> {
     Some(all.join(" "))
 }
 
-// What `numbers` says, where it could be asked. After a refusal it says the buffer too, which the command line does not.
+// What `numbers` says, where it could be asked. After a refusal it says the buffer too, which the command line does
+// not.
 fn answer_of(said: &str) -> Option<String> {
     let (_, answer) = said.split_once(": ")?;
     if answer.starts_with("cannot be ") {

@@ -1,10 +1,11 @@
 //! One question asked of both programs, its answers compared and counted.
 use super::cost::Cost;
 use super::counts::{Counts, Section, NUMBERS};
-use super::difference::{hex, shown, Difference};
+use super::difference::{shown, Difference};
 use super::first::First;
 use super::purse::Purse;
 use super::rng::Rng;
+use crate::lines::hex;
 use crate::{boundary, second};
 use std::fmt::Debug;
 

@@ -1,4 +1,5 @@
 //! A question on which the two programs differ, as it is said loudly.
+use crate::lines::hex;
 use std::fmt::Debug;
 
 #[derive(Debug, Clone)]
@@ -8,10 +9,6 @@ pub struct Difference {
     pub second: String,
     pub table: Vec<u8>,
     pub list: Vec<u8>,
-}
-
-pub fn hex(bytes: &[u8]) -> String {
-    bytes.iter().map(|b| format!("{b:02x}")).collect()
 }
 
 // Whole states and buffers are long: an answer is cut where a reader would stop.
@@ -29,7 +26,8 @@ impl Difference {
         let bar = "!".repeat(72);
         format!(
             "{bar}\nTHE TWO PROGRAMS DIFFER\n  asked:   {}\n  first:   {}\n  second:  {}\n  table:   hex:{}\n  \
-             list:    hex:{}\n  seed {seed}, case {case}; to repeat it alone:\n  compare --seed {seed} --case {case}\n{bar}",
+             list:    hex:{}\n  seed {seed}, case {case}; to repeat it alone:\n  \
+             compare --seed {seed} --case {case}\n{bar}",
             self.question,
             self.first,
             self.second,

@@ -1,6 +1,6 @@
 //! Command lines that cannot be asked: both programs must say `error`.
 use super::ask::{Ask, Same};
-use super::difference::hex;
+use crate::lines::hex;
 
 /// One of the ways to write a line wrong, about the case's table.
 pub fn line(ask: &mut Ask) -> Same<()> {

@@ -46,8 +46,8 @@ pub const FITS: u8 = 2;
 
 pub const UNDECIDED: u8 = 3;
 
-// Overloaded: `t`, its `margin` and the sixteen `starts`. Fits: `window`, the least `margin` up to it, and the first `t`
-// that has it.
+// Overloaded: `t`, its `margin` and the sixteen `starts`. Fits: `window`, the least `margin` up to it, and the first
+// `t` that has it.
 #[repr(C)]
 pub struct Verdict {
     pub refusal: Refusal,

@@ -1,6 +1,6 @@
 //! The comparison of the first program, the proved library behind `boundary`, with the second, which knows
-//! document 01 only: random tables and lists from a seed, every question asked of both, every answer, byte
-//! and state compared.
+//! document 01 and the readings of it only: random tables and lists from a seed, every question asked of
+//! both, every answer, byte and state compared.
 //!
 //! `sort`, `tables`, `special`, `damage`, `lists` and `spoil` make the input; `questions`, `buffers`,
 //! `bench`, `foreign` and `oddities` ask; `case` is one table with all that is asked about it, `run` many of

@@ -135,3 +135,14 @@ fn the_work_of_a_alone_closes_first_at_eight() {
     assert_eq!(work(&a_with(1, 4, 12), 1, 12), Ok(1));
     assert_eq!(work(&a_with(1, 4, 12), 1, 13), Ok(2));
 }
+
+#[test]
+fn deadlines_that_differ_make_the_list_longer_still() {
+    let mut table = Vec::new();
+    for n in 0..8 {
+        let mut frames = [(1, 65_535, 1); 8];
+        frames[0].1 = u16::from(n) + 1;
+        table.extend(task(n, 3, &frames));
+    }
+    assert_eq!(overload_list(&table).map(|list| list.len()), Ok(4_194_016));
+}

@@ -32,3 +32,4 @@ pub mod FlatSaid
 pub mod StepLaws
 pub mod LostLaws
 pub mod ForeignLaws
+pub mod FlatExamples

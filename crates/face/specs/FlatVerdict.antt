@@ -17,7 +17,7 @@ use Rattle.face.specs.declared.answers.Verdict.{Verdict}
 use Rattle.face.specs.declared.answers.Response.{Response}
 use Rattle.face.specs.Flat.{none}
 
--- 1 overloaded, 2 fits, 3 undecided
+-- 1 overloaded, 2 fits, 3 undecided; the starts are the desk's, all zero where it is not an overload
 unfoldable pub flat-verdict : verdict.Verdict → List ℕ → Verdict
 flat-verdict (Overloaded t m) starts =
     record { refusal = none; verdict = 1; t = t; margin = m; window = 0; starts = starts }

@@ -16,7 +16,7 @@ use Rattle.promise.proofs.NamedLaws.{named-right}
 use Rattle.promise.proofs.CallerLaws.{callers}
 use Rattle.promise.proofs.BoundaryLaws.{boundary-each}
 use Rattle.promise.proofs.StepLaws.{stepped}
-use Rattle.promise.proofs.LostLaws.{nothing-lost}
+use Rattle.promise.proofs.LostLaws.{nothing-lost, rest-zero}
 use Rattle.promise.proofs.ForeignLaws.{foreign}
 
 demands : (s : List ℕ) → Bytes s → Demands s
@@ -39,6 +39,7 @@ kept =
       callers = callers;
       boundary = boundary-each;
       lost = nothing-lost;
+      zero = rest-zero;
       stepped = stepped;
       foreign = foreign;
     }

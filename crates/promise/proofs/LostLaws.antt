@@ -1,19 +1,28 @@
--- Nothing is lost over the boundary: the laws of FlatRead and StepLaws, for every question.
+-- Nothing is lost over the boundary: the laws of FlatRead and StepLaws, for every question. And what an answer has no
+-- use for is zero.
 -- Assumes nothing.
-use mathlib.Core.Path.{ap₂}
+use mathlib.Core.Path.{_≡_, refl, sym, ap, ap₂, _∙_}
 use mathlib.Core.List.{List}
 use Prim.Native.Nat.{ℕ}
+use lib.ListN.{replicate}
+use Rattle.model.specs.Verdict.{Verdict, overloaded, fits, undecided}
+use Rattle.model.specs.Answer.{Answer, answered, refused}
 use Rattle.table.specs.Bytes.{Bytes}
 use Rattle.table.specs.Reader.{reading-of}
 use Rattle.requests.specs.declared.reader.Checked.{Checked}
 use Rattle.bench.specs.declared.state.Bench.{Bench}
+use Rattle.bench.specs.Loaded.{loaded, no-jobs}
+use Rattle.bench.proofs.LoadTurns.{loaded-none}
 use Rattle.desk.specs.declared.Loaded.{Loaded}
 use Rattle.desk.specs.Questions.{demand-asked, work-asked, margin-asked, window-asked, verdict-asked, list-asked, replay-asked, load-asked}
 use Rattle.desk.specs.Overload.{overload-asked}
 use Rattle.desk.specs.Response.{response-asked}
-use Rattle.desk.specs.Written.{bench-in}
-use Rattle.face.specs.State.{flat-loaded}
-use Rattle.promise.specs.NothingLost.{Nothing-lost}
+use Rattle.desk.specs.Written.{judgement-of, bench-in}
+use Rattle.face.specs.declared.answers.State.{State}
+use Rattle.face.specs.FlatVerdict.{flat-verdict, flat-judgement, flat-judged}
+use Rattle.face.specs.State.{flat-bench, flat-loaded}
+use Rattle.promise.specs.NothingLost.{Nothing-lost, zero-state, Rest-zero}
+use Rattle.promise.proofs.RefusalLaws.{exact-refusals}
 use Rattle.promise.proofs.NumberedLaws.{all-numbered}
 use Rattle.promise.proofs.StepLaws.{stepped}
 use Rattle.promise.proofs.FlatRead.{shape-kept, amount-kept, margin-kept, window-kept, verdict-kept, response-kept}
@@ -44,3 +53,29 @@ module _ (s : List ℕ) (bytes : Bytes s) where
             ap₂ both (checked-kept (list-asked s list) (numbered .check list))
             (stepped (bench-in (load-asked s list)) .state);
       }
+
+-- ---- what is zero
+
+starts-zero : (said : Answer Verdict) → (flat-judged (judgement-of said) .verdict ≡ 1 → ⊥)
+    → flat-judged (judgement-of said) .starts ≡ replicate 16 0
+unfolding flat-judged flat-judgement flat-verdict
+starts-zero (answered (overloaded t m starts)) other = absurd (other refl)
+starts-zero (answered (fits w m t)) other = refl
+starts-zero (answered undecided) other = refl
+starts-zero (refused number index) other = refl
+
+bench-zero : flat-bench (loaded no-jobs) ≡ zero-state
+unfolding flat-bench
+bench-zero = ap flat-bench (sym loaded-none)
+
+pub rest-zero : (s : List ℕ) → Bytes s → Rest-zero s
+unfolding flat-loaded
+rest-zero s bytes =
+    let exact = exact-refusals s bytes in
+    let bench-of : Answer Bench → State = λ a. flat-bench (bench-in a) in
+    record {
+      starts = starts-zero (verdict-asked s);
+      state = λ list number index is.
+          let given = exact .check list .only number index is in
+          ap bench-of (exact .load list .refuses number index given) ∙ bench-zero;
+    }

@@ -21,7 +21,7 @@ use Rattle.promise.specs.OneAnswer.{One-answer-each}
 use Rattle.promise.specs.Named.{Named-right}
 use Rattle.promise.specs.Callers.{Slice, Callers}
 use Rattle.promise.specs.Boundary.{Boundary-each}
-use Rattle.promise.specs.NothingLost.{Nothing-lost, Stepped}
+use Rattle.promise.specs.NothingLost.{Nothing-lost, Rest-zero, Stepped}
 use Rattle.promise.specs.Foreign.{Foreign}
 
 pub record Demands (s : List ℕ) : Type 0 where
@@ -46,9 +46,10 @@ pub record Promised : Type 0 where
   pub named : Named-right
   -- the third demand from the contracts, for a caller of the code
   pub callers : (s : Slice) → Bytes (now s) → Callers s
-  -- the same of the boundary: what each exported function answers, that nothing of the desk's answer is lost there, and
-  -- what its caller in C or Rust may rely on
+  -- the same of the boundary: what each exported function answers, that nothing of the desk's answer is lost there and
+  -- what has no use is zero, and what its caller in C or Rust may rely on
   pub boundary : Boundary-each
   pub lost : (s : List ℕ) → Bytes s → Nothing-lost s
+  pub zero : (s : List ℕ) → Bytes s → Rest-zero s
   pub stepped : (b : Bench) → Stepped b
   pub foreign : (s : Slice) → Bytes (now s) → Foreign s

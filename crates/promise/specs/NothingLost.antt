@@ -1,13 +1,16 @@
 -- Nothing is lost over the boundary: what a caller reads out of a flat answer is the desk's own answer, to every
--- question and in every field; and a bench that is stepped from C or Rust is the desk's bench, after each tick.
+-- question and in every field; what an answer has no use for is zero; and a bench that is stepped from C or Rust is the
+-- desk's bench, after each tick.
 -- Assumes nothing.
 use mathlib.Core.Path.{_≡_}
 use mathlib.Core.List.{List}
 use Prim.Native.Nat.{ℕ, zero, suc}
+use lib.ListN.{replicate}
+use Rattle.model.specs.Answer.{refused}
 use Rattle.table.specs.Reader.{reading-of}
 use Rattle.overload.specs.Place.{written-of}
 use Rattle.bench.specs.declared.state.Bench.{Bench}
-use Rattle.bench.specs.Rule.{run-of}
+use Rattle.bench.specs.Rule.{slots, run-of}
 use Rattle.desk.specs.Questions.{demand-asked, work-asked, margin-asked, window-asked, verdict-asked, list-asked, replay-asked}
 use Rattle.desk.specs.Overload.{overload-asked}
 use Rattle.desk.specs.Response.{response-asked}
@@ -37,6 +40,24 @@ pub record Nothing-lost (s : List ℕ) : Type 0 where
   pub check : (list : List ℕ) → Kept-by flat-checked read-listed (checked-of (list-asked s list))
   pub replay : (list : List ℕ) → Kept-by flat-ending read-ending (ending-of (replay-asked s list))
   pub load : (list : List ℕ) → Kept-by flat-loaded read-loaded (loading-of s list)
+
+-- ---- what is zero
+
+-- the state of a bench with nothing to do
+abbrev pub zero-state : State
+zero-state =
+    let zeros : List ℕ = replicate slots 0 in
+    record { tick = 0; outcome = 0; index = 0; left = zeros; due = zeros; arrive = zeros; task = zeros }
+
+-- in a refusal every other field is zero, and so is every field that an answer has no use for. The definitions say it
+-- themselves but for two fields that they take from the desk: the starts where the verdict is not an overload, and the
+-- bench of a list that is refused
+pub record Rest-zero (s : List ℕ) : Type 0 where
+  pub starts : let r = flat-judged (judgement-of (verdict-asked s)) in (r .verdict ≡ 1 → ⊥) → r .starts ≡ replicate 16 0
+  pub state : (list : List ℕ) (number index : ℕ) → list-asked s list ≡ refused number index
+      → flat-loaded (loading-of s list) .state ≡ zero-state
+
+-- ---- the bench
 
 -- n ticks from C or Rust
 abbrev pub flat-run : ℕ → State → State

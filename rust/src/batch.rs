@@ -6,8 +6,8 @@ use crate::lines::{Line, FINE, NOT_ASKED};
 use crate::output::{shown, Out};
 use std::io::{self, BufRead, Read};
 
-/// No longer line is taken: its bytes are passed over, and it answers an error. The longest list there is, in hex with
-/// blanks between, is shorter than this.
+/// No longer line is taken: its bytes are passed over, and it answers an error. A table has at most 512 bytes and a list
+/// 1,024, so no line that is not refused is near this.
 const LONGEST_LINE: u64 = 16 << 20;
 
 /// Answers every line of standard input. The exit status is the greatest of its lines.

@@ -1,7 +1,7 @@
 -- The ways through a question: the table's refusal, the refusals of the question, the answer.
 -- Assumes nothing.
 use Prim.Native.Nat.{ℕ, _*_, _≤_, _<_}
-use mathlib.Core.Path.{_≡_, sym, ap, _∙_}
+use mathlib.Core.Path.{_≡_, sym, ap, ap₂, _∙_}
 use mathlib.Core.List.{List}
 use native.Mathlib.Omega.{arith}
 use lib.IntN.{ℤ}
@@ -21,7 +21,7 @@ use Rattle.table.specs.TableOf.{table-of, plan-of}
 use Rattle.table.specs.declared.plan.Plan.{Plan}
 use Rattle.table.proofs.Exact.{shaped}
 use Rattle.table.proofs.ReadyLaws.{ready-read, ready-tasks}
-use Rattle.desk.specs.Questions.{after-reading, one-task, margin-asked, window-asked, verdict-asked}
+use Rattle.desk.specs.Questions.{after-reading, read-asked, one-task, margin-asked, window-asked, verdict-asked}
 
 -- the table's refusal is passed on, whatever else would be said
 pub passed-on : {A : Type 0} (s : List ℕ) (said : Answer A) {r : Reading} {y no : Refusal} → r ≡ reading-of s
@@ -41,6 +41,14 @@ module _ (s : List ℕ) (shape : Shape) (read : reading-of s ≡ reading.Table s
 
   pub plan-tasks : {plan : Plan} → plan ≡ plan-of s (shape .records) (shape .tasks) → plan .tasks ≡ shape .tasks
   plan-tasks made = ready-tasks (ready-read s shape read made) ∙ sym tasks
+
+  -- ---- what it is: nothing more
+
+  pub read-answered : answered shape ≡ read-asked s
+  unfolding read-asked
+  read-answered =
+      let told = shaped s shape read in
+      rw read (ap₂ (λ r k. answered (record { records = r; tasks = k })) (told .records-are) (told .tasks-are))
 
   -- ---- one task: 9, then 7
 

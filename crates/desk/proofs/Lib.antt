@@ -1,12 +1,7 @@
-pub mod TableLaws
 pub mod AskLaws
+pub mod LaidLaws
 pub mod ListLaws
-pub mod WritingLaws
-pub mod WritingExact
-pub mod WritingFits
-pub mod WritingLeft
-pub mod ListExact
-pub mod OverloadReplay
-pub mod ReplayLaws
+pub mod LoadLaws
 pub mod ResponseLaws
-pub mod ResponseExact
+pub mod TickLaws
+pub mod WritingLaws

@@ -20,25 +20,13 @@ use Rattle.requests.specs.Reader.{check-of, refusal-in}
 use Rattle.requests.specs.Accepted.{Listed}
 use Rattle.requests.proofs.Exact.{check-count}
 use Rattle.requests.proofs.AcceptedLaws.{listed}
-use Rattle.bench.specs.declared.state.Bench.{Bench}
-use Rattle.bench.specs.Loaded.{loaded, no-jobs}
-use Rattle.desk.specs.Questions.{on-list, list-asked, load-asked}
-use Rattle.desk.specs.Written.{checked-of, loading-of}
+use Rattle.desk.specs.ListQuestions.{on-list}
 
 module _ (s list : List ℕ) (shape : Shape) (read : reading-of s ≡ reading.Table shape) where
   few : table-of s .tasks ≤ 16
   few = few-tasks (shaped s shape read .well)
 
-  -- the answer of the check, whichever it is
-  asked-is : (x : Checked) → check-of (table-of s) list ≡ x → checked-of (list-asked s list) ≡ x
-  unfolding list-asked
-  asked-is (Legal n) is = rw (read, is) (ap Legal (sym (check-count (table-of s) few list n is)))
-  asked-is (Refused r) is = rw (read, is)
-
   module _ {r : Checked} (is : r ≡ check-of (table-of s) list) where
-    pub list-checked : r ≡ checked-of (list-asked s list)
-    list-checked = sym (asked-is r (sym is))
-
     -- the list's refusal is passed on
     pub list-refused : {A : Type 0} (ask : Table → Requests → A) {y no : Refusal} → r ≡ Refused y → no ≡ refusal-in r
         → refused (no .number) (no .index) ≡ on-list s list ask
@@ -51,18 +39,10 @@ module _ (s list : List ℕ) (shape : Shape) (read : reading-of s ≡ reading.Ta
           → answered (ask (table-of s) (list-of list)) ≡ on-list s list ask
       list-answered ask = rw (read, sym is ∙ told)
 
+      -- how many records it has
+      pub list-count : n ≡ list-of list .count
+      list-count = check-count (table-of s) few list n (sym is ∙ told)
+
       -- a list that passed is one for the bench
       pub list-listed : Listed (table-of s) list n
       list-listed = listed (table-of s) few list n (sym is ∙ told)
-
--- ---- the check and the bench beside it
-
-pub loading-refused : (s list : List ℕ) {b : Bench} {no : Refusal}
-    → refused (no .number) (no .index) ≡ list-asked s list
-    → refused (no .number) (no .index) ≡ load-asked s list → b ≡ loaded no-jobs
-    → record { check = Refused no; bench = b } ≡ loading-of s list
-loading-refused s list counted loads empty = rw (sym counted, sym loads, empty)
-
-pub loading-answered : (s list : List ℕ) {b full : Bench} {r : Checked} → r ≡ checked-of (list-asked s list)
-    → answered full ≡ load-asked s list → b ≡ full → record { check = r; bench = b } ≡ loading-of s list
-loading-answered s list checks loads is = rw (checks, sym loads, is)

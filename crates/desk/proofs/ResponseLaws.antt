@@ -4,8 +4,7 @@ use mathlib.Core.Bool.{Bool, true, false}
 use mathlib.Core.Path.{_≡_, sym, _∙_}
 use mathlib.Core.List.{List}
 use Prim.Native.Nat.{ℕ, _≤_, _<_}
-use Rattle.laws.specs.Search.{place-or}
-use Rattle.laws.proofs.Tests.{kept}
+use Rattle.laws.specs.Search.{at, nowhere, place-or}
 use Rattle.model.specs.Request.{Has-frame, no-frame}
 use Rattle.model.specs.Response.{response}
 use Rattle.model.specs.Answer.{answered, refused}
@@ -18,16 +17,7 @@ use Rattle.table.specs.TableOf.{table-of}
 use Rattle.table.proofs.Exact.{shaped}
 use Rattle.response.specs.Deadlines.{first-above}
 use Rattle.response.proofs.DeadlineLaws.{above-at, above-none}
-use Rattle.desk.specs.Response.{refuse-at, by-frame, response-asked}
-use Rattle.desk.specs.ResponseMeaning.{Asks-frame}
-use Rattle.desk.proofs.TableLaws.{table-asked}
-
--- of a frame that is there, 8 is all that can be refused
-pub asks-response : {s : List ℕ} {k i : ℕ} → Asks-frame s k i
-    → response-asked s k i ≡ refuse-at (first-above (records s) s) 8 (answered (response (table-of s) k i))
-unfolding response-asked
-asks-response {s} {k} {i} asks =
-    table-asked s (by-frame s k i) (asks .table-good) ∙ rw (kept (catches-frame (table-of s) k i) (asks .has))
+use Rattle.desk.specs.Questions.{response-asked}
 
 module _ (s : List ℕ) (shape : Shape) (read : reading-of s ≡ reading.Table shape) (k i : ℕ)
     {missing : Bool} (told : missing ≡ no-frame (table-of s) k i) where
@@ -39,15 +29,17 @@ module _ (s : List ℕ) (shape : Shape) (read : reading-of s ≡ reading.Table s
     pub has-frame : Has-frame (table-of s) k i
     has-frame = catches-frame (table-of s) k i .passed (sym told ∙ there)
 
-    asked : response-asked s k i
-        ≡ refuse-at (first-above (shape .records) s) 8 (answered (response (table-of s) k i))
-    asked =
-        let shape-is = shaped s shape read in
-        rw (shape-is .records-are) (asks-response (record { table-good = shape-is .well; has = has-frame }))
-
     module _ {index : ℕ} (found : index ≡ place-or (shape .records) (first-above (shape .records) s)) where
       pub some-above : index < shape .records → refused 8 index ≡ response-asked s k i
-      some-above below = sym (asked ∙ rw (above-at s (shape .records) index found below))
+      unfolding response-asked
+      some-above below =
+          let which : first-above (records s) s ≡ at index =
+          rw (shaped s shape read .records-are) at (above-at s (shape .records) index found below) in
+          rw (read, sym told ∙ there, which)
 
       pub response-answered : shape .records ≤ index → answered (response (table-of s) k i) ≡ response-asked s k i
-      response-answered past = sym (asked ∙ rw (above-none s (shape .records) index found past))
+      unfolding response-asked
+      response-answered past =
+          let which : first-above (records s) s ≡ nowhere =
+          rw (shaped s shape read .records-are) at (above-none s (shape .records) index found past) in
+          rw (read, sym told ∙ there, which)

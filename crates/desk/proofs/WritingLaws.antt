@@ -1,20 +1,23 @@
--- The ways through the question for the overload list: a refusal, which leaves the buffer, or what the writer is asked.
+-- The ways through the questions for the overload list: a refusal, which leaves the buffer, its length, or what the
+-- writer is asked.
 -- Assumes nothing.
+use mathlib.Core.Bool.{true}
 use mathlib.Core.Path.{_≡_, refl, sym, ap, _∙_}
 use mathlib.Core.List.{List, [], _∷_}
 use mathlib.Core.Logic.{inl, inr}
 use Prim.Native.Nat.{ℕ}
 use native.Mathlib.Omega.{arith}
 use lib.IntN.{ℤ}
+use lib.ListN.{length}
 use types.Run.{OneOf}
 use denote.Enum.Declared.{tagOf}
+use Rattle.model.specs.Task.{Table}
 use Rattle.model.specs.Verdict as Rule
 use Rattle.model.specs.Verdict.{horizon, verdict}
-use Rattle.model.specs.Answer.{Answer, refused}
+use Rattle.model.specs.Answer.{answered, refused}
 use Rattle.model.proofs.OverloadVerdict.{verdict-over}
 use Rattle.table.specs.Bytes.{Bytes}
 use Rattle.table.specs.declared.reader.Shape.{Shape}
-use Rattle.table.specs.declared.reader.Refusal.{Refusal}
 use Rattle.table.specs.declared.reader.Reading.the-variants as reading
 use Rattle.table.specs.declared.plan.Plan.{Plan}
 use Rattle.table.specs.Reader.{reading-of}
@@ -25,25 +28,19 @@ use Rattle.verdict.specs.declared.judge.Judged.{Judged}
 use Rattle.verdict.specs.declared.judge.Verdict.the-variants.{Overloaded}
 use Rattle.verdict.specs.Written.{judged-of}
 use Rattle.verdict.proofs.judge.Verdict.{the-type}
-use Rattle.overload.specs.declared.write.Written.the-variants as written
 use Rattle.overload.specs.Counts.{Asked}
-use Rattle.overload.specs.Place.{placed, Wrote}
-use Rattle.desk.specs.Overload.{on-overload, list-at, overload-asked}
-
--- a refusal is the answer, and the buffer stays
-pub writing-refused : (buffer : List ℕ) (place : ℕ) {r x : Refusal} {said : Answer (List ℕ)} → r ≡ x
-    → refused (x .number) (x .index) ≡ said → Wrote buffer place said (written.Refused r) buffer
-writing-refused buffer place same is = rw (sym is, same) (record { answer-is = refl; buffer-is = refl })
+use Rattle.overload.specs.Place.{placed}
+use Rattle.desk.specs.Orders.{Order, not-overloaded, is-calm, list-at}
+use Rattle.desk.specs.Questions.{asked, size-asked, overload-asked}
 
 -- ---- the verdict taken apart
 
 -- a verdict with the tag of one of the two other variants is not an overload
-other-refused : (v : Rule.Verdict) → OneOf (1 ∷ 2 ∷ []) (tagOf the-type (judged-of v .verdict))
-    → (ask : ℕ → Answer (List ℕ)) → refused 13 0 ≡ on-overload v ask
-other-refused (Rule.overloaded t m starts) tag ask =
+other-calm : (v : Rule.Verdict) → OneOf (1 ∷ 2 ∷ []) (tagOf the-type (judged-of v .verdict)) → is-calm v ≡ true
+other-calm (Rule.overloaded t m starts) tag =
     elim tag [ inl one ↦ absurd (omega arith) | inr two ↦ absurd (omega arith) ]
-other-refused (Rule.fits window m t) tag ask = refl
-other-refused Rule.undecided tag ask = refl
+other-calm (Rule.fits window m t) tag = refl
+other-calm Rule.undecided tag = refl
 
 overload-told : (v : Rule.Verdict) {t : ℕ} {m : ℤ} → judged-of v .verdict ≡ Overloaded t m
     → v ≡ Rule.overloaded t m (judged-of v .starts)
@@ -53,14 +50,10 @@ overload-told Rule.undecided told = let apart : _≡_ {A = ℕ} 0 1 = cc in absu
 
 module _ (s : List ℕ) (shape : Shape) (read : reading-of s ≡ reading.Table shape) {judged : Judged}
     (is : judged ≡ judged-of (verdict horizon (table-of s))) where
-  module _ (buffer : List ℕ) (place : ℕ) where
-    pub not-overloaded : OneOf (1 ∷ 2 ∷ []) (tagOf the-type (judged .verdict))
-        → refused 13 0 ≡ overload-asked s buffer place
-    unfolding overload-asked
-    not-overloaded tag =
-        rw read
-        (other-refused (verdict horizon (table-of s)) (rw is at tag)
-        (λ t. placed buffer place (list-at (table-of s) t)))
+  -- 13 comes first, whatever else is asked of the list
+  pub calm-refused : {A : Type 0} (more : Order) (ask : Table → A)
+      → OneOf (1 ∷ 2 ∷ []) (tagOf the-type (judged .verdict)) → refused 13 0 ≡ asked s (not-overloaded ∷ more) ask
+  calm-refused more ask tag = rw (read, other-calm (verdict horizon (table-of s)) (rw is at tag))
 
   module _ {t : ℕ} {m : ℤ} (told : judged .verdict ≡ Overloaded t m) where
     verdict-is : verdict horizon (table-of s) ≡ Rule.overloaded t m (judged .starts)
@@ -68,9 +61,13 @@ module _ (s : List ℕ) (shape : Shape) (read : reading-of s ≡ reading.Table s
         overload-told (verdict horizon (table-of s)) (sym (ap (λ j. j .verdict) is) ∙ told)
         ∙ ap (Rule.overloaded t m) (sym (ap (λ j. j .starts) is))
 
+    pub size-answered : answered (length (list-at (table-of s) t)) ≡ size-asked s
+    unfolding size-asked
+    size-answered = rw (read, verdict-is)
+
     pub overload-answered : (buffer : List ℕ) (place : ℕ)
         → placed buffer place (list-at (table-of s) t) ≡ overload-asked s buffer place
-    unfolding overload-asked
+    unfolding overload-asked placed
     overload-answered buffer place = rw (read, verdict-is)
 
     -- what the writer asks

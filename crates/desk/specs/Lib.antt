@@ -1,7 +1,8 @@
+pub mod Orders
 pub mod Questions
-pub mod Overload
-pub mod Response
-pub mod Written
-pub mod Refusals
-pub mod OverloadMeaning
-pub mod ResponseMeaning
+pub mod ListQuestions
+pub mod Flat
+pub mod FlatVerdict
+pub mod FlatList
+pub mod FlatBench
+pub mod Laid

@@ -1,30 +1,24 @@
--- The meaning of each question on raw bytes: document 01, "What the desk computes" and "When the desk says no".
--- "Tables are tested first .. Then 7 (for one task's demand or work, 9 before 7) .. or, for a list, length, then
--- records in order, in each record 10 before 11."
+-- The meaning of each question that is asked of a table's raw bytes: document 01, "What the desk computes" and "When the
+-- desk says no": "Tables are tested first", then the question's own order, then the answer.
 -- Assumes nothing.
 use Prim.Native.Nat.{ℕ}
-use mathlib.Core.Bool.{Bool, cond}
 use mathlib.Core.List.{List}
-use lib.Dec.{ltb}
 use lib.IntN.{ℤ}
+use lib.ListN.{length}
 use Rattle.laws.specs.Search.{Found}
+use Rattle.laws.specs.Ladder.{climb}
 use Rattle.model.specs.Task.{Task, Table}
 use Rattle.model.specs.Demand.{demand, work, margin}
 use Rattle.model.specs.Verdict.{horizon, closing-window, Verdict, verdict}
+use Rattle.model.specs.Response.{Response, response}
 use Rattle.model.specs.Answer.{Answer, answered, refused}
-use Rattle.model.specs.Request.{Requests, no-task}
-use Rattle.model.specs.Jobs.{jobs-of}
-use Rattle.model.specs.Replay.{Replayed}
+use Rattle.table.specs.declared.reader.Shape.{Shape}
 use Rattle.table.specs.declared.reader.Reading.{Reading}
 use Rattle.table.specs.declared.reader.Reading.the-variants as reading
+use Rattle.table.specs.Bytes.{records}
 use Rattle.table.specs.Reader.{reading-of}
 use Rattle.table.specs.TableOf.{table-of}
-use Rattle.requests.specs.declared.reader.Checked.{Checked}
-use Rattle.requests.specs.declared.reader.Checked.the-variants as checked
-use Rattle.requests.specs.Entry.{list-of}
-use Rattle.requests.specs.Reader.{check-of}
-use Rattle.bench.specs.declared.state.Bench.{Bench}
-use Rattle.bench.specs.Loaded.{loaded, replay-of}
+use Rattle.desk.specs.Orders.{Order, table-only, time-order, task-order, frame-order, size-order, writing-order, list-in}
 
 -- the table's own refusal first; else what is said of a table
 abbrev pub after-reading : {A : Type 0} → Reading → Answer A → Answer A
@@ -34,23 +28,17 @@ after-reading (reading.Refused r) said = refused (r .number) (r .index)
 abbrev pub on-table : {A : Type 0} → List ℕ → (Table → Answer A) → Answer A
 on-table s ask = after-reading (reading-of s) (ask (table-of s))
 
--- this refusal, carrying 0, where the test holds; else the rest
-abbrev pub refuse-if : {A : Type 0} → Bool → ℕ → Answer A → Answer A
-refuse-if test number rest = cond test (refused number 0) rest
+-- then the refusals of an order; else the answer
+abbrev pub asked : {A : Type 0} → List ℕ → Order → (Table → A) → Answer A
+asked s order ask = on-table s (λ table. climb order refused s (answered (ask table)))
 
--- 7: "t or a window asked about above 65,536"
-abbrev pub too-far : ℕ → Bool
-too-far t = ltb horizon t
+-- ---- the questions
 
-abbrev pub by-time : {A : Type 0} → ℕ → (Table → A) → Table → Answer A
-by-time t ask table = refuse-if (too-far t) 7 (answered (ask table))
-
--- 9: "no such task"
-abbrev pub by-task : (Task → ℕ → ℕ) → ℕ → ℕ → Table → Answer ℕ
-by-task sum k t table = refuse-if (no-task table k) 9 (refuse-if (too-far t) 7 (answered (sum (table .task k) t)))
+unfoldable pub read-asked : List ℕ → Answer Shape
+read-asked s = asked s table-only (λ table. record { records = records s; tasks = table .tasks })
 
 abbrev pub one-task : (Task → ℕ → ℕ) → List ℕ → ℕ → ℕ → Answer ℕ
-one-task sum s k t = on-table s (by-task sum k t)
+one-task sum s k t = asked s (task-order k t) (λ table. sum (table .task k) t)
 
 unfoldable pub demand-asked : List ℕ → ℕ → ℕ → Answer ℕ
 demand-asked s k t = one-task demand s k t
@@ -59,42 +47,21 @@ unfoldable pub work-asked : List ℕ → ℕ → ℕ → Answer ℕ
 work-asked s k w = one-task work s k w
 
 unfoldable pub margin-asked : List ℕ → ℕ → Answer ℤ
-margin-asked s t = on-table s (by-time t (λ table. margin table t))
+margin-asked s t = asked s (time-order t) (λ table. margin table t)
 
 unfoldable pub window-asked : List ℕ → Answer Found
-window-asked s = on-table s (λ table. answered (closing-window horizon table))
+window-asked s = asked s table-only (closing-window horizon)
 
 unfoldable pub verdict-asked : List ℕ → Answer Verdict
-verdict-asked s = on-table s (λ table. answered (verdict horizon table))
+verdict-asked s = asked s table-only (verdict horizon)
 
--- ---- request lists
+unfoldable pub response-asked : List ℕ → ℕ → ℕ → Answer Response
+response-asked s k i = asked s (frame-order k i) (λ table. response table k i)
 
--- the list's own refusal, 10 or 11; else what is said of a list
-abbrev pub after-check : {A : Type 0} → Checked → Answer A → Answer A
-after-check (checked.Legal n) said = said
-after-check (checked.Refused r) said = refused (r .number) (r .index)
+-- how many bytes the overload list has
+unfoldable pub size-asked : List ℕ → Answer ℕ
+size-asked s = asked s size-order (λ table. length (list-in table))
 
-abbrev pub by-list : {A : Type 0} → List ℕ → (Table → Requests → A) → Table → Answer A
-by-list list ask table = after-check (check-of table list) (answered (ask table (list-of list)))
-
-abbrev pub on-list : {A : Type 0} → List ℕ → List ℕ → (Table → Requests → A) → Answer A
-on-list s list ask = on-table s (by-list list ask)
-
--- what is asked of a legal list: how many requests it has, its replay, and the bench that is loaded with it
-abbrev pub counts : Table → Requests → ℕ
-counts table requests = requests .count
-
-abbrev pub replays : Table → Requests → Replayed
-replays table requests = replay-of (jobs-of table requests)
-
-abbrev pub loads : Table → Requests → Bench
-loads table requests = loaded (jobs-of table requests)
-
-unfoldable pub list-asked : List ℕ → List ℕ → Answer ℕ
-list-asked s list = on-list s list counts
-
-unfoldable pub replay-asked : List ℕ → List ℕ → Answer Replayed
-replay-asked s list = on-list s list replays
-
-unfoldable pub load-asked : List ℕ → List ℕ → Answer Bench
-load-asked s list = on-list s list loads
+-- the bytes to be written into the buffer from the place on
+unfoldable pub overload-asked : List ℕ → List ℕ → ℕ → Answer (List ℕ)
+overload-asked s buffer place = asked s (writing-order buffer place) list-in

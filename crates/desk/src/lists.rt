@@ -1,35 +1,115 @@
-// The questions about a request list of a table that was read: the list's own refusals, 10 and 11, then the answer.
-use crate::Loaded;
+// The questions about a request list: whether it is legal, the bench that is loaded with it, and its replay.
+use crate::answers::Ending;
+use crate::answers::Listed;
+use crate::answers::Loaded;
+use crate::answers::NONE;
+use crate::ticks::flat_bench;
 use requests::reader::Checked;
-use table::reader::Shape;
+use table::reader::Reading;
 ghost use mathlib.Core.Path.{_≡_};
-ghost use Rattle.table.specs.Reader.{reading-of};
-ghost use Rattle.table.specs.declared.reader.Reading.the-variants.{Table};
-ghost use Rattle.desk.specs.Questions.{list-asked};
-ghost use Rattle.desk.specs.Written.{checked-of, loading-of};
+ghost use Rattle.desk.specs.ListQuestions.{list-asked, load-asked, replay-asked};
+ghost use Rattle.desk.specs.FlatList.{flat-listed, flat-ending};
+ghost use Rattle.desk.specs.FlatBench.{flat-loaded};
+ghost use Rattle.desk.specs.Laid.{laid-ending};
 
-pub fn check_in<'a, 'b>(s: &'a [u8], shape: Shape, list: &'b [u8]) -> Checked
-    requires { ⌜ reading-of (now s) ≡ Table shape ⌝ }
-    ensures { λ r. ⌜ r ≡ checked-of (list-asked (now (s .entry)) (now (list .entry))) ⌝ }
+// What the bytes are as a request list of the table. Refuses with 10 or 11.
+#[no_mangle]
+pub extern "C" fn limpidorsa_list<'a, 'b>(table: &'a [u8], list: &'b [u8]) -> Listed
+    ensures { λ r. ⌜ r ≡ flat-listed (list-asked (now (table .entry)) (now (list .entry))) ⌝ }
 {
-    let plan = table::plan::make_plan(s, shape.records, shape.tasks);
-    requests::reader::check_list(s, plan, list)
+    let reading = table::reader::read_table(table);
+    let Reading::Table(shape) = reading else {
+        return Listed {
+            refusal: table::reader::refusal_of(reading),
+            records: 0,
+        };
+    };
+    let plan = table::plan::make_plan(table, shape.records, shape.tasks);
+    let checked = requests::reader::check_list(table, plan, list);
+    let Checked::Legal(records) = checked else {
+        return Listed {
+            refusal: requests::reader::refusal_of(checked),
+            records: 0,
+        };
+    };
+    Listed {
+        refusal: NONE,
+        records,
+    }
 }
 
-pub fn load_in<'a, 'b>(s: &'a [u8], shape: Shape, list: &'b [u8]) -> Loaded
-    requires { ⌜ reading-of (now s) ≡ Table shape ⌝ }
-    ensures { λ r. ⌜ r ≡ loading-of (now (s .entry)) (now (list .entry)) ⌝ }
+// The bench loaded with a request list, before tick 0. Refuses with 10 or 11; the bench then has nothing to do.
+#[no_mangle]
+pub extern "C" fn limpidorsa_load<'a, 'b>(table: &'a [u8], list: &'b [u8]) -> Loaded
+    ensures { λ r. ⌜ r ≡ flat-loaded (load-asked (now (table .entry)) (now (list .entry))) ⌝ }
 {
-    let plan = table::plan::make_plan(s, shape.records, shape.tasks);
-    let checked = requests::reader::check_list(s, plan, list);
-    let Checked::Legal(n) = checked else {
+    let reading = table::reader::read_table(table);
+    let Reading::Table(shape) = reading else {
         return Loaded {
-            check: Checked::Refused(requests::reader::refusal_of(checked)),
-            bench: bench::load::empty(),
+            refusal: table::reader::refusal_of(reading),
+            records: 0,
+            state: flat_bench(bench::load::empty()),
+        };
+    };
+    let plan = table::plan::make_plan(table, shape.records, shape.tasks);
+    let checked = requests::reader::check_list(table, plan, list);
+    let Checked::Legal(records) = checked else {
+        return Loaded {
+            refusal: requests::reader::refusal_of(checked),
+            records: 0,
+            state: flat_bench(bench::load::empty()),
         };
     };
     Loaded {
-        check: Checked::Legal(n),
-        bench: bench::load::load(s, plan, list, n),
+        refusal: NONE,
+        records,
+        state: flat_bench(bench::load::load(table, plan, list, records)),
     }
+}
+
+fn lay_ending(x: bench::replay::Replayed) -> Ending
+    ensures { λ r. ⌜ r ≡ laid-ending x ⌝ }
+{
+    match x {
+        bench::replay::Replayed::Missed { tick, index } => Ending {
+            refusal: NONE,
+            missed: true,
+            tick,
+            index,
+        },
+        bench::replay::Replayed::AllMet { tick } => Ending {
+            refusal: NONE,
+            missed: false,
+            tick,
+            index: 0,
+        },
+    }
+}
+
+// The replay of a request list by the earliest-deadline bench. Refuses with 10 or 11.
+#[no_mangle]
+pub extern "C" fn limpidorsa_replay<'a, 'b>(table: &'a [u8], list: &'b [u8]) -> Ending
+    ensures { λ r. ⌜ r ≡ flat-ending (replay-asked (now (table .entry)) (now (list .entry))) ⌝ }
+{
+    let reading = table::reader::read_table(table);
+    let Reading::Table(shape) = reading else {
+        return Ending {
+            refusal: table::reader::refusal_of(reading),
+            missed: false,
+            tick: 0,
+            index: 0,
+        };
+    };
+    let plan = table::plan::make_plan(table, shape.records, shape.tasks);
+    let checked = requests::reader::check_list(table, plan, list);
+    let Checked::Legal(n) = checked else {
+        return Ending {
+            refusal: requests::reader::refusal_of(checked),
+            missed: false,
+            tick: 0,
+            index: 0,
+        };
+    };
+    let start = bench::load::load(table, plan, list, n);
+    lay_ending(bench::replay::finish(start))
 }

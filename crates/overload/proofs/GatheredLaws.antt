@@ -73,7 +73,7 @@ module _ {s : List ℕ} {plan : Plan} {first : List ℕ} {t : ℕ} {many : List 
       ∙ ap (λ (m : ℕ). sum m (λ k. getD many k 0)) (ready-tasks (gathered .asked .ready))
       ∙ sym (weave-count (table-of s) (runs-of first many))
 
-  gathered-long : length (bytes-of (overload-list (table-of s) t)) ≡ n * size
+  pub gathered-long : length (bytes-of (overload-list (table-of s) t)) ≡ n * size
   gathered-long =
       let list = overload-list (table-of s) t in
       omega (arith, bytes-length list (list .count), gathered-count, gathered-list .count-is)

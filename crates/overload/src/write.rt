@@ -4,6 +4,7 @@ use table::reader::Refusal;
 use table::record::SIZE;
 ghost use mathlib.Core.Path.{_≡_};
 ghost use Prim.Native.Nat.{_≤_};
+ghost use lib.ListN.{length};
 ghost use Rattle.model.specs.Overload.{overload-list};
 ghost use Rattle.table.specs.TableOf.{table-of};
 ghost use Rattle.requests.specs.Entry.{widest, bytes-of};
@@ -35,6 +36,15 @@ fn total_of(tasks: usize, many: [u32; 16]) -> usize
         k += 1;
     }
     sum
+}
+
+// How many bytes the list of the overload at t has, where `starts` are the start frames.
+pub fn list_size(s: &[u8], plan: Plan, starts: [u8; 16], t: u64) -> usize
+    requires { ⌜ Asked (now s) plan starts t ⌝ }
+    ensures { λ r. ⌜ r ≡ length (bytes-of (overload-list (table-of (now (s .entry))) t)) ⌝ }
+{
+    let many = crate::count::count_all(s, plan, starts, t);
+    total_of(plan.tasks, many) * SIZE
 }
 
 // The list of the overload at t, from a place of the buffer on, where `starts` are the start frames.

@@ -1,0 +1,24 @@
+// The numbers of document 01 that a caller may need, by name.
+use table::record::SIZE;
+
+// The greatest t, and the greatest window, that is asked about or searched.
+pub const HORIZON: u64 = 65536;
+
+// The latest arrival in a request list.
+pub const LAST_ARRIVAL: u32 = requests::rules::LAST_ARRIVAL;
+
+// The tick by which every run has ended: a bench that was loaded stops within LAST_TICK + 1 calls of limpidorsa_tick.
+pub const LAST_TICK: u32 = bench::state::LAST_TICK;
+
+// As many records, and bytes, a table may have.
+pub const MOST_RECORDS: usize = table::reader::MOST;
+
+pub const MOST_TABLE_BYTES: usize = MOST_RECORDS * SIZE;
+
+// As many records, and bytes, a request list may have that is replayed.
+pub const MOST_REQUESTS: usize = requests::reader::MOST;
+
+pub const MOST_LIST_BYTES: usize = MOST_REQUESTS * SIZE;
+
+// Every refusal has a number from 1 to this.
+pub const LAST_REFUSAL: u8 = 13;

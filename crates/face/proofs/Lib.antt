@@ -1,2 +1,0 @@
-pub mod StateLaws
-pub mod VerdictLaws

@@ -1,4 +1,0 @@
-pub mod Flat
-pub mod FlatVerdict
-pub mod FlatList
-pub mod State

@@ -12,9 +12,10 @@ use Rattle.model.specs.Machine.{sooner, chosen, give, left-at}
 use Rattle.model.specs.Replay.{Late-at}
 use Rattle.model.proofs.JobsSame.{Beside, chosen-same, give-same}
 use Rattle.model.proofs.MachineLaws.{left-start, left-step, give-falls}
+use Rattle.requests.specs.Entry.{most-requests}
 use Rattle.bench.specs.declared.state.Bench.{Bench}
 use Rattle.bench.specs.declared.state.Outcome.{Outcome}
-use Rattle.bench.specs.Rule.{slots, jobs-in, next-in, less-one, moved-on, with-outcome}
+use Rattle.bench.specs.Rule.{jobs-in, next-in, less-one, moved-on, with-outcome}
 use Rattle.bench.specs.Loaded.{loaded}
 use Rattle.bench.specs.Ticked.{left-in, Late-in}
 use Rattle.bench.specs.Meaning.{Holds}
@@ -32,7 +33,7 @@ holds-stopped holds =
       kept = record { due = holds .kept .due; arrive = holds .kept .arrive; task = holds .kept .task };
     }
 
-module _ (jobs : Jobs) (fits : jobs .count ≤ slots) where
+module _ (jobs : Jobs) (fits : jobs .count ≤ most-requests) where
   -- "all zero before loading", and then as loaded
   pub holds-start : Holds jobs 0 (loaded jobs)
   unfolding loaded

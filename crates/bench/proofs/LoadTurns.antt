@@ -13,27 +13,26 @@ use Rattle.model.specs.Jobs.{jobs-of}
 use Rattle.table.specs.Bytes.{size, records}
 use Rattle.table.specs.TableOf.{table-of}
 use Rattle.requests.specs.declared.entry.Entry.{Entry}
-use Rattle.requests.specs.Entry.{entry-of, list-of}
+use Rattle.requests.specs.Entry.{most-requests, entry-of, list-of}
 use Rattle.requests.specs.Rules.{Placed}
 use Rattle.requests.specs.Accepted.{Listed}
 use Rattle.requests.proofs.AcceptedLaws.{accepted-few, entry-room, accepted-placed}
 use Rattle.bench.specs.declared.load.Slot.{Slot}
 use Rattle.bench.specs.declared.state.Outcome.the-variants.{Running}
-use Rattle.bench.specs.Rule.{slots}
 use Rattle.bench.specs.Loaded.{slots-of, loaded, no-jobs, Slot-is}
 use Rattle.bench.proofs.LoadedLaws.{slots-length, slots-at, slots-past}
 
 -- ---- one array
 
-pub slots-none : (f : ℕ → ℕ) → replicate slots 0 ≡ slots-of 0 f
+pub slots-none : (f : ℕ → ℕ) → replicate most-requests 0 ≡ slots-of 0 f
 unfolding slots-of tabulate
 slots-none f = refl
 
-pub slots-turn : (f : ℕ → ℕ) (i : ℕ) {v : ℕ} → i < slots → v ≡ f i → set (slots-of i f) i v ≡ slots-of (i + 1) f
+pub slots-turn : (f : ℕ → ℕ) (i : ℕ) {v : ℕ} → i < most-requests → v ≡ f i → set (slots-of i f) i v ≡ slots-of (i + 1) f
 slots-turn f i {v} room is =
     ext-getD 0 (set (slots-of i f) i v) (slots-of (i + 1) f) (long ∙ sym (slots-length (i + 1) f)) each
   where
-    long : length (set (slots-of i f) i v) ≡ slots
+    long : length (set (slots-of i f) i v) ≡ most-requests
     long = length-set (slots-of i f) i v ∙ slots-length i f
 
     here : getD (set (slots-of i f) i v) i 0 ≡ getD (slots-of (i + 1) f) i 0
@@ -61,7 +60,7 @@ slots-turn f i {v} room is =
 
 pub record Loading (s list : List ℕ) (n i : ℕ) (left due arrive task : List ℕ) : Type 0 where
   pub within : i ≤ n
-  pub few : n ≤ slots
+  pub few : n ≤ most-requests
   pub listed : Listed (table-of s) list n
   pub left-is : left ≡ slots-of i (jobs-of (table-of s) (list-of list) .amount)
   pub due-is : due ≡ slots-of i (jobs-of (table-of s) (list-of list) .due)
@@ -69,7 +68,7 @@ pub record Loading (s list : List ℕ) (n i : ℕ) (left due arrive task : List 
   pub task-is : task ≡ slots-of i (jobs-of (table-of s) (list-of list) .task)
 
 pub loading-start : {s list : List ℕ} {n : ℕ} → Listed (table-of s) list n
-    → let none : List ℕ = replicate slots 0 in Loading s list n 0 none none none none
+    → let none : List ℕ = replicate most-requests 0 in Loading s list n 0 none none none none
 loading-start {s} {list} listed =
     let jobs = jobs-of (table-of s) (list-of list) in
     record {
@@ -100,7 +99,7 @@ module _ {s list : List ℕ} {n i : ℕ} {left due arrive task : List ℕ}
           (set task i (slot .task))
       loading-turn {slot} is =
           let jobs = jobs-of (table-of s) (list-of list) in
-          let room : i < slots = omega (arith, so-far .few) in
+          let room : i < most-requests = omega (arith, so-far .few) in
           let same : Slot-is (table-of s) (entry-of list i) slot = rw read at is in
           record {
             within = omega arith;
@@ -122,7 +121,7 @@ module _ {s list : List ℕ} {n i : ℕ} {left due arrive task : List ℕ}
 
 -- nothing to load
 abbrev zeros : List ℕ
-zeros = replicate slots 0
+zeros = replicate most-requests 0
 
 pub loaded-none :
     record { tick = 0; left = zeros; due = zeros; arrive = zeros; task = zeros; outcome = Running } ≡ loaded no-jobs

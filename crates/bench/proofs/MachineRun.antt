@@ -12,9 +12,10 @@ use Rattle.model.specs.Machine.{sooner, left-at}
 use Rattle.model.specs.Replay as Replay
 use Rattle.model.specs.Replay.{last-tick, Late-at, Undone-at, Met}
 use Rattle.model.proofs.MachineLaws.{left-mono}
+use Rattle.requests.specs.Entry.{most-requests}
 use Rattle.bench.specs.declared.state.Bench.{Bench}
 use Rattle.bench.specs.declared.state.Outcome.the-variants.{Running, Missed, AllMet}
-use Rattle.bench.specs.Rule.{slots, tick-of, run-of}
+use Rattle.bench.specs.Rule.{tick-of, run-of}
 use Rattle.bench.specs.Loaded.{loaded}
 use Rattle.bench.specs.Ticked.{left-in, Misses, None-late, Some-left, Ticked, stays, stops, meets, moves}
 use Rattle.bench.specs.Meaning.{Holds}
@@ -70,7 +71,7 @@ met-now jobs t behind done =
           ];
     }
 
-module _ (jobs : Jobs) (fits : jobs .count ≤ slots) where
+module _ (jobs : Jobs) (fits : jobs .count ≤ most-requests) where
   module _ (n : ℕ) (b : Bench) (soon : n ≤ last-tick) (running : b .outcome ≡ Running) (holds : Holds jobs n b)
       (behind : Behind jobs n) where
     stop-missed : (i : ℕ) → Misses b i → Replay.Missed jobs (sooner jobs) n i
@@ -84,7 +85,7 @@ module _ (jobs : Jobs) (fits : jobs .count ≤ slots) where
           first = behind .on-time;
         }
 
-    stop-met : ((k : ℕ) → k < slots → left-in b k ≡ 0) → Met jobs (sooner jobs) n
+    stop-met : ((k : ℕ) → k < most-requests → left-in b k ≡ 0) → Met jobs (sooner jobs) n
     stop-met done = met-now jobs n behind (λ k inside. sym (holds .left k inside) ∙ done k (omega arith))
 
     go-on : None-late b → Some-left b → Behind jobs (suc n)

@@ -10,43 +10,48 @@ use Rattle.laws.proofs.PlaceLaws.{place-at, place-none}
 use Rattle.model.specs.Jobs.{Jobs}
 use Rattle.model.specs.Machine.{sooner, ready, pick}
 use Rattle.model.proofs.PickLaws.{pick-start, pick-skips, pick-first, pick-wins, pick-keeps, pick-below}
-use Rattle.bench.specs.Rule.{slots, next-of}
+use Rattle.requests.specs.Entry.{most-requests}
+use Rattle.bench.specs.Rule.{next-of}
 use Rattle.bench.specs.Scan.{Tried}
 
-pub tried-start : (jobs : Jobs) (t : ℕ) → Tried jobs t 0 slots
-tried-start jobs t = record { within = omega arith; best-is = ap (place-or slots) (sym (pick-start _ _)) }
+pub tried-start : (jobs : Jobs) (t : ℕ) → Tried jobs t 0 most-requests
+tried-start jobs t = record { within = omega arith; best-is = ap (place-or most-requests) (sym (pick-start _ _)) }
 
 module _ {jobs : Jobs} {t i best : ℕ} (tried : Tried jobs t i best) where
   abbrev passes : ℕ → Bool
   passes = ready jobs t (jobs .amount)
 
   -- one request more
-  longer : {r : ℕ} → i < slots → r ≡ place-or slots (pick passes (sooner jobs) (suc i)) → Tried jobs t (i + 1) r
+  longer : {r : ℕ} → i < most-requests → r ≡ place-or most-requests (pick passes (sooner jobs) (suc i))
+      → Tried jobs t (i + 1) r
   longer more e = rw add-one (record { within = more; best-is = e })
 
-  module _ (more : i < slots) where
+  module _ (more : i < most-requests) where
     pub tried-skips : passes i ≡ false → Tried jobs t (i + 1) best
-    tried-skips fails = longer more (tried .best-is ∙ ap (place-or slots) (sym (pick-skips _ _ i fails)))
+    tried-skips fails = longer more (tried .best-is ∙ ap (place-or most-requests) (sym (pick-skips _ _ i fails)))
 
     module _ (is-ready : passes i ≡ true) where
-      pub tried-first : slots ≤ best → Tried jobs t (i + 1) i
-      tried-first over = longer more (ap (place-or slots) (sym (pick-first _ _ i is-ready none)))
+      pub tried-first : most-requests ≤ best → Tried jobs t (i + 1) i
+      tried-first over = longer more (ap (place-or most-requests) (sym (pick-first _ _ i is-ready none)))
         where
           none : pick passes (sooner jobs) i ≡ nowhere
-          none = place-none _ slots best (λ j found. omega (arith, pick-below _ _ i j found)) (tried .best-is) over
+          none =
+              place-none _ most-requests best (λ j found. omega (arith, pick-below _ _ i j found)) (tried .best-is) over
 
-      module _ (rival : best < slots) {before : Bool} (told : before ≡ sooner jobs i best) where
+      module _ (rival : best < most-requests) {before : Bool} (told : before ≡ sooner jobs i best) where
         found : pick passes (sooner jobs) i ≡ at best
-        found = place-at _ slots best (tried .best-is) rival
+        found = place-at _ most-requests best (tried .best-is) rival
 
         pub tried-wins : before ≡ true → Tried jobs t (i + 1) i
-        tried-wins e = longer more (ap (place-or slots) (sym (pick-wins _ _ i best is-ready found (sym told ∙ e))))
+        tried-wins e =
+            longer more (ap (place-or most-requests) (sym (pick-wins _ _ i best is-ready found (sym told ∙ e))))
 
         pub tried-keeps : before ≡ false → Tried jobs t (i + 1) best
-        tried-keeps e = longer more (ap (place-or slots) (sym (pick-keeps _ _ i best is-ready found (sym told ∙ e))))
+        tried-keeps e =
+            longer more (ap (place-or most-requests) (sym (pick-keeps _ _ i best is-ready found (sym told ∙ e))))
 
-  pub tried-end : slots ≤ i → jobs .count ≡ slots → best ≡ place-or slots (next-of jobs t)
-  tried-end over count = tried .best-is ∙ ap (λ n. place-or slots (pick passes (sooner jobs) n)) all
+  pub tried-end : most-requests ≤ i → jobs .count ≡ most-requests → best ≡ place-or most-requests (next-of jobs t)
+  tried-end over count = tried .best-is ∙ ap (λ n. place-or most-requests (pick passes (sooner jobs) n)) all
     where
       all : i ≡ jobs .count
       all = omega (arith, tried .within)

@@ -19,8 +19,9 @@ use Rattle.model.specs.Machine.{sooner, give}
 use Rattle.model.specs.Tick.{One-unit}
 use Rattle.model.proofs.OrderLaws.{sooner-strict}
 use Rattle.model.proofs.MachineLaws.{one-unit}
+use Rattle.requests.specs.Entry.{most-requests}
 use Rattle.bench.specs.declared.state.Bench.{Bench}
-use Rattle.bench.specs.Rule.{slots, has-left, is-late, jobs-in, first-late, first-left, next-in, less-one}
+use Rattle.bench.specs.Rule.{has-left, is-late, jobs-in, first-late, first-left, next-in, less-one}
 use Rattle.bench.specs.Ticked.{left-in, Late-in, Misses, None-late, Some-left}
 
 module _ (b : Bench) where
@@ -29,7 +30,7 @@ module _ (b : Bench) where
   abbrev late-test : ℕ → Bool
   late-test = is-late (b .left) (b .due) (b .tick)
 
-  late-is : (k : ℕ) → k < slots → late-test k ≡ true → Late-in b k
+  late-is : (k : ℕ) → k < most-requests → late-test k ≡ true → Late-in b k
   late-is k inside passes =
       let undone = has-left (b .left) k in
       let over = leb (getD (b .due) k 0) (b .tick) in
@@ -42,13 +43,13 @@ module _ (b : Bench) where
   not-late : (k : ℕ) → late-test k ≡ false → Late-in b k → ⊥
   not-late k fails late = true≢false (sym (rw (lt-ltb _ _ (late .undone), le-leb _ _ (late .over))) ∙ fails)
 
-  late-right : Right late-test slots 0 (first-late b)
+  late-right : Right late-test most-requests 0 (first-late b)
   unfolding first-late
-  late-right = least-right late-test slots 0
+  late-right = least-right late-test most-requests 0
 
   pub first-late-at : (i : ℕ) → first-late b ≡ at i → Misses b i
   first-late-at i found =
-      let least = subst (Right late-test slots 0) found late-right in
+      let least = subst (Right late-test most-requests 0) found late-right in
       record {
         late = late-is i (least .high) (least .passes);
         lowest = λ j less. not-late j (least .first j (omega arith) less);
@@ -56,27 +57,27 @@ module _ (b : Bench) where
 
   pub first-late-none : first-late b ≡ nowhere → None-late b
   first-late-none found k late =
-      not-late k (subst (Right late-test slots 0) found late-right k (omega arith) (late .inside)) late
+      not-late k (subst (Right late-test most-requests 0) found late-right k (omega arith) (late .inside)) late
 
   -- ---- the first with work left
 
   abbrev left-test : ℕ → Bool
   left-test = has-left (b .left)
 
-  left-right : Right left-test slots 0 (first-left b)
+  left-right : Right left-test most-requests 0 (first-left b)
   unfolding first-left
-  left-right = least-right left-test slots 0
+  left-right = least-right left-test most-requests 0
 
   pub first-left-at : (k : ℕ) → first-left b ≡ at k → Some-left b
   first-left-at k found =
-      let least = subst (Right left-test slots 0) found left-right in
+      let least = subst (Right left-test most-requests 0) found left-right in
       record { job = k; inside = least .high; undone = ltb-true _ _ (least .passes) }
 
-  pub first-left-none : first-left b ≡ nowhere → (k : ℕ) → k < slots → left-in b k ≡ 0
+  pub first-left-none : first-left b ≡ nowhere → (k : ℕ) → k < most-requests → left-in b k ≡ 0
   first-left-none found k inside =
       omega (
         arith,
-        ltb-false 0 (left-in b k) (subst (Right left-test slots 0) found left-right k (omega arith) inside),
+        ltb-false 0 (left-in b k) (subst (Right left-test most-requests 0) found left-right k (omega arith) inside),
       )
 
   -- ---- the one that gets the unit

@@ -9,16 +9,17 @@ use Rattle.laws.specs.Sums.{tabulate}
 use Rattle.model.specs.Task.{Table}
 use Rattle.model.specs.Jobs.{Jobs}
 use Rattle.model.specs.Replay.{Replayed, missed, all-met, last-tick}
+use Rattle.requests.specs.Entry.{most-requests}
 use Rattle.requests.specs.declared.entry.Entry.{Entry}
 use Rattle.bench.specs.declared.load.Slot.{Slot}
 use Rattle.bench.specs.declared.state.Bench.{Bench}
 use Rattle.bench.specs.declared.state.Outcome.{Outcome}
 use Rattle.bench.specs.declared.state.Outcome.the-variants.{Running, Missed, AllMet}
-use Rattle.bench.specs.Rule.{slots, run-of}
+use Rattle.bench.specs.Rule.{run-of}
 
 -- one number for each job; "all zero before loading", so 0 past the last
 unfoldable pub slots-of : ℕ → (ℕ → ℕ) → List ℕ
-slots-of count f = tabulate slots (λ k. cond (ltb k count) (f k) 0)
+slots-of count f = tabulate most-requests (λ k. cond (ltb k count) (f k) 0)
 
 unfoldable pub loaded : Jobs → Bench
 loaded jobs =

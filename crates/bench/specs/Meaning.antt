@@ -5,9 +5,9 @@ use Prim.Native.Nat.{ℕ, _≤_, _<_}
 use Rattle.model.specs.Jobs.{Jobs}
 use Rattle.model.specs.Machine.{sooner, left-at}
 use Rattle.model.specs.Replay.{Says, last-tick}
+use Rattle.requests.specs.Entry.{most-requests}
 use Rattle.bench.specs.declared.state.Bench.{Bench}
 use Rattle.bench.specs.declared.state.Outcome.the-variants.{Running}
-use Rattle.bench.specs.Rule.{slots}
 use Rattle.bench.specs.Loaded.{loaded, answer-of}
 use Rattle.bench.specs.Ticked.{left-in, Kept}
 
@@ -20,7 +20,7 @@ pub record Holds (jobs : Jobs) (t : ℕ) (b : Bench) : Type 0 where
 
 -- jobs that the bench has room for, each due by the last tick
 pub record Replayable (jobs : Jobs) : Type 0 where
-  pub fits : jobs .count ≤ slots
+  pub fits : jobs .count ≤ most-requests
   pub in-time : (k : ℕ) → k < jobs .count → jobs .due k ≤ last-tick
 
 -- a run of all its ticks has ended, and rightly

@@ -9,20 +9,16 @@ use Rattle.laws.specs.Search.{Found, at, nowhere, least-from}
 use Rattle.model.specs.Jobs.{Jobs}
 use Rattle.model.specs.Machine.{sooner, chosen}
 use Rattle.model.specs.Replay.{last-tick}
-use Rattle.requests.specs.Reader.{most-requests}
+use Rattle.requests.specs.Entry.{most-requests}
 use Rattle.bench.specs.declared.state.Bench.{Bench}
 use Rattle.bench.specs.declared.state.Outcome.{Outcome}
 use Rattle.bench.specs.declared.state.Outcome.the-variants.{Running, Missed, AllMet}
 
--- "The bench keeps 128 amounts left"
-abbrev pub slots : ℕ
-slots = most-requests
-
--- the slots as jobs, with what each has left
+-- "The bench keeps 128 amounts left": the slots as jobs, with what each has left
 abbrev pub slot-jobs : (left due arrive task : List ℕ) → Jobs
 slot-jobs left due arrive task =
     record {
-      count = slots;
+      count = most-requests;
       task = λ k. getD task k 0;
       arrive = λ k. getD arrive k 0;
       due = λ k. getD due k 0;
@@ -40,10 +36,10 @@ abbrev pub is-late : (left due : List ℕ) → ℕ → ℕ → Bool
 is-late left due t k = has-left left k && leb (getD due k 0) t
 
 unfoldable pub first-late : Bench → Found
-first-late b = least-from (is-late (b .left) (b .due) (b .tick)) slots 0
+first-late b = least-from (is-late (b .left) (b .due) (b .tick)) most-requests 0
 
 unfoldable pub first-left : Bench → Found
-first-left b = least-from (has-left (b .left)) slots 0
+first-left b = least-from (has-left (b .left)) most-requests 0
 
 -- "the arrived, unfinished request with the earliest deadline, ties by lower task, then earlier arrival"
 abbrev pub next-of : Jobs → ℕ → Found

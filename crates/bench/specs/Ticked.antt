@@ -6,9 +6,10 @@ use lib.ListN.{getD}
 use Rattle.model.specs.Machine.{sooner}
 use Rattle.model.specs.Replay.{last-tick}
 use Rattle.model.specs.Tick.{Late, Lowest-late, Undone, Gives, One-unit}
+use Rattle.requests.specs.Entry.{most-requests}
 use Rattle.bench.specs.declared.state.Bench.{Bench}
 use Rattle.bench.specs.declared.state.Outcome.the-variants.{Running, Missed, AllMet}
-use Rattle.bench.specs.Rule.{slots, jobs-in, next-in, less-one, with-outcome, moved-on}
+use Rattle.bench.specs.Rule.{jobs-in, next-in, less-one, with-outcome, moved-on}
 
 -- what slot k has left
 abbrev pub left-in : Bench → ℕ → ℕ
@@ -40,7 +41,7 @@ pub data Ticked (b : Bench) : Bench → Type 0 where
   -- "any request with work left and deadline at most T is a miss; the bench stops"
   stops : (i : ℕ) → Going b → Misses b i → Ticked b (with-outcome b (Missed i))
   -- "all met with the tick after the last unit"
-  meets : Going b → None-late b → ((k : ℕ) → k < slots → left-in b k ≡ 0) → Ticked b (with-outcome b AllMet)
+  meets : Going b → None-late b → ((k : ℕ) → k < most-requests → left-in b k ≡ 0) → Ticked b (with-outcome b AllMet)
   -- "Otherwise one unit", or none where the tick is idle
   moves : Going b → None-late b → Some-left b
       → One-unit (jobs-in b) (sooner (jobs-in b)) (b .tick) (left-in b) (λ k. getD (less-one (b .left) (next-in b)) k 0)

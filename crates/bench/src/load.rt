@@ -1,8 +1,8 @@
 // Loading the bench with a legal request list.
 use crate::state::Bench;
 use crate::state::Outcome;
-use crate::state::SLOTS;
 use requests::entry::Entry;
+use requests::reader::MOST_REQUESTS;
 use table::plan::Plan;
 ghost use mathlib.Core.Path.{_≡_};
 ghost use Rattle.model.specs.Jobs.{jobs-of};
@@ -19,10 +19,10 @@ pub fn empty() -> Bench
 {
     Bench {
         tick: 0,
-        left: [0; SLOTS],
-        due: [0; SLOTS],
-        arrive: [0; SLOTS],
-        task: [0; SLOTS],
+        left: [0; MOST_REQUESTS],
+        due: [0; MOST_REQUESTS],
+        arrive: [0; MOST_REQUESTS],
+        task: [0; MOST_REQUESTS],
         outcome: Outcome::Running,
     }
 }
@@ -54,10 +54,10 @@ pub fn load<'a, 'b>(s: &'a [u8], plan: Plan, list: &'b [u8], n: usize) -> Bench
     requires { ⌜ Ready (now s) plan × Listed (table-of (now s)) (now list) n ⌝ }
     ensures { λ r. ⌜ r ≡ loaded (jobs-of (table-of (now (s .entry))) (list-of (now (list .entry)))) ⌝ }
 {
-    let mut left = [0u32; SLOTS];
-    let mut due = [0u32; SLOTS];
-    let mut arrive = [0u32; SLOTS];
-    let mut task = [0u8; SLOTS];
+    let mut left = [0u32; MOST_REQUESTS];
+    let mut due = [0u32; MOST_REQUESTS];
+    let mut arrive = [0u32; MOST_REQUESTS];
+    let mut task = [0u8; MOST_REQUESTS];
     let mut i: usize = 0;
     while i < n {
         let x = requests::entry::entry_at(list, i);

@@ -1,7 +1,5 @@
 // The bench's state: document 01, "The replay bench".
-
-// "The bench keeps 128 amounts left"
-pub const SLOTS: usize = requests::reader::MOST;
+use requests::reader::MOST_REQUESTS;
 
 // "All runs end by tick 131,070."
 pub const LAST_TICK: u32 = 131070;
@@ -12,13 +10,14 @@ pub enum Outcome {
     AllMet,
 }
 
-// What each of the 128 requests has left, and beside it its deadline, its arrival and its task; all zero where there is
-// no request. `Missed` names the record, and the tick of a miss or of *all met* is the state's own.
+// "The bench keeps 128 amounts left": what each request has left, and beside it its deadline, its arrival and its task;
+// all zero where there is no request. `Missed` names the record, and the tick of a miss or of *all met* is the state's
+// own.
 pub struct Bench {
     pub tick: u32,
-    pub left: [u32; SLOTS],
-    pub due: [u32; SLOTS],
-    pub arrive: [u32; SLOTS],
-    pub task: [u8; SLOTS],
+    pub left: [u32; MOST_REQUESTS],
+    pub due: [u32; MOST_REQUESTS],
+    pub arrive: [u32; MOST_REQUESTS],
+    pub task: [u8; MOST_REQUESTS],
     pub outcome: Outcome,
 }

@@ -5,7 +5,7 @@ use crate::scan::first_left;
 use crate::state::Bench;
 use crate::state::LAST_TICK;
 use crate::state::Outcome;
-use crate::state::SLOTS;
+use requests::reader::MOST_REQUESTS;
 ghost use mathlib.Core.Path.{_≡_};
 ghost use Rattle.laws.specs.Search.{at};
 ghost use Rattle.bench.specs.Rule.{with-outcome, moved-on, less-one, tick-of};
@@ -55,14 +55,14 @@ impl Bench {
             return self;
         }
         let late = first_late(&self.left, &self.due, t);
-        if late < SLOTS {
+        if late < MOST_REQUESTS {
             return self.stop(Outcome::Missed(late));
         }
-        if SLOTS <= first_left(&self.left) {
+        if MOST_REQUESTS <= first_left(&self.left) {
             return self.stop(Outcome::AllMet);
         }
         let next = next_of(&self.left, &self.due, &self.arrive, &self.task, t);
-        if SLOTS <= next {
+        if MOST_REQUESTS <= next {
             self.tick = t + 1;
             return self;
         }

@@ -11,12 +11,12 @@ pub const LAST_ARRIVAL: u32 = requests::rules::LAST_ARRIVAL;
 pub const LAST_TICK: u32 = bench::state::LAST_TICK;
 
 // As many records, and bytes, a table may have.
-pub const MOST_RECORDS: usize = table::reader::MOST;
+pub const MOST_RECORDS: usize = table::reader::MOST_RECORDS;
 
 pub const MOST_TABLE_BYTES: usize = MOST_RECORDS * SIZE;
 
 // As many records, and bytes, a request list may have that is replayed.
-pub const MOST_REQUESTS: usize = requests::reader::MOST;
+pub const MOST_REQUESTS: usize = requests::reader::MOST_REQUESTS;
 
 pub const MOST_LIST_BYTES: usize = MOST_REQUESTS * SIZE;
 

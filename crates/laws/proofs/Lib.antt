@@ -5,6 +5,7 @@ pub mod Every
 pub mod Falling
 pub mod Fill
 pub mod GateLaws
+pub mod LadderLaws
 pub mod LastLaws
 pub mod LastZero
 pub mod LeastLaws

@@ -1,4 +1,5 @@
--- Rules one under the other, each with its number, and the first of them that is broken: "in each record 2, 3, 4, 5, 6".
+-- Rules one under the other, and the first of them that is broken: "in each record 2, 3, 4, 5, 6". The rules of a
+-- record and the order in which a question is tested are such ladders; a new rule is a row.
 -- Assumes nothing.
 use Prim.Native.Nat.{ℕ}
 use mathlib.Core.Path.{_≡_}
@@ -15,7 +16,7 @@ pub record Rule (X Y : Type 0) : Type 1 where
   pub Says : Y → Type 0
   pub Carries : Y → ℕ → Type 0
 
--- this one is broken
+-- a rule that says this, with its number and what it carries, is broken
 pub record Broken (says : Type 0) (its-number : ℕ) (Carries : ℕ → Type 0) (number index : ℕ) : Type 0 where
   pub number-is : number ≡ its-number
   pub fails : says → ⊥
@@ -33,7 +34,7 @@ module _ {X Y : Type 0} where
         Carries = λ y i. i ≡ 0;
       }
 
-  -- what is refused by the first whose test is true, or a, where none is; `refuse` makes an A of a number and an index
+  -- the refusal by the first whose test is true, or `a` where none is; `refuse` makes it of a number and an index
   abbrev pub climb : {A : Type 0} → List (Rule X Y) → (ℕ → ℕ → A) → X → A → A
   climb [] refuse x a = a
   climb (r ∷ rs) refuse x a = cond (r .is-broken x) (refuse (r .number) (r .index x)) (climb rs refuse x a)

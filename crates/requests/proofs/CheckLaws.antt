@@ -2,23 +2,26 @@
 -- rules by which a reader is exact.
 -- Assumes nothing.
 use Prim.Native.Nat.{ℕ, _≤_}
-use mathlib.Core.Path.{_≡_, sym}
+use mathlib.Core.Path.{_≡_, refl, sym}
+use mathlib.Core.Logic.{inl, inr}
 use mathlib.Core.List.{List}
 use lib.ListN.{length}
 use native.Mathlib.Omega.{arith}
 use Rattle.laws.specs.Reader.{whole, stopped, read-all}
+use Rattle.laws.proofs.LadderLaws.{climb-kept, climb-broken, keeps-or-named}
 use Rattle.laws.proofs.ReaderExact.{Rules}
 use Rattle.model.specs.Task.{Table}
 use Rattle.table.specs.Bytes.{records}
 use Rattle.requests.specs.declared.rules.SoFar.{SoFar}
 use Rattle.requests.specs.declared.reader.Checked.the-variants.{Legal, Refused}
+use Rattle.requests.specs.Entry.{entry-of}
+use Rattle.requests.specs.Accepted.{Length-right, rules, Good}
 use Rattle.requests.specs.Reader.{reader-of, check-of}
-use Rattle.requests.specs.Accepted.{Length-right, Good}
 use Rattle.requests.specs.Refusals.{Breaks}
 use Rattle.requests.proofs.LengthLaws.{catches-length}
 use Rattle.requests.proofs.CarriedLaws.{Carried, carried-start}
 use Rattle.requests.proofs.CarriedNext.{carried-next}
-use Rattle.requests.proofs.FaultLaws.{good-first, breaks-first, good-or-breaks}
+use Rattle.requests.proofs.GoodRequests.{good-keeps, keeps-good, breaks-some}
 use Rattle.requests.proofs.RuleLaws.{rules-caught}
 
 -- ---- the answer
@@ -46,8 +49,16 @@ rules-of table few s =
       long = catches-length (length s);
       start = carried-start s few;
       next = λ i b carried good. carried-next carried (omega (arith, few, good .in-place .known .task));
-      passes = λ i b carried good. good-first (rules-caught carried) good;
-      stops = λ i b number carried breaks. breaks-first (rules-caught carried) breaks;
-      numbered = λ i breaks. elim breaks [ ];
-      either = λ i b carried. good-or-breaks (rules-caught carried);
+      passes = λ i b carried good.
+          climb-kept (λ number index. number) (b, entry-of s i) (s, i) 0 (rules table) (rules-caught carried)
+          (good-keeps good);
+      stops = λ i b number carried breaks.
+          climb-broken (λ number index. number) (b, entry-of s i) (s, i) 0 (rules table) number 0
+          (rules-caught carried) breaks;
+      numbered = breaks-some table s;
+      either = λ i b carried.
+          elim (keeps-or-named (b, entry-of s i) (s, i) (rules table) refl (rules-caught carried)) [
+            | inl keeps ↦ inl (keeps-good table s i keeps)
+            | inr breaks ↦ inr breaks
+          ];
     }

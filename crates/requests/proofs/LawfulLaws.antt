@@ -11,8 +11,7 @@ use Rattle.model.specs.Task.{Table}
 use Rattle.model.specs.Request.{Request, Requests, Legal, Sorted, last-arrival}
 use Rattle.model.proofs.WovenLegal.{same-legal, same-sorted}
 use Rattle.table.specs.Bytes.{size, records}
-use Rattle.requests.specs.Entry.{widest, bytes-of}
-use Rattle.requests.specs.Reader.{most-requests}
+use Rattle.requests.specs.Entry.{most-requests, widest, bytes-of}
 use Rattle.requests.specs.Accepted.{Lawful, Accepted}
 use Rattle.requests.specs.Refusals.{Refused-with}
 use Rattle.requests.proofs.AcceptedLaws.{rules-good}

@@ -5,8 +5,9 @@ use mathlib.Core.Path.{_≡_}
 use native.Mathlib.Omega.{arith}
 use Rattle.laws.proofs.Tests.{Catches, catches-as, catches-lt, catches-ne, catches-or}
 use Rattle.table.specs.Bytes.{size}
-use Rattle.requests.specs.Reader.{most-requests, bad-length}
+use Rattle.requests.specs.Entry.{most-requests}
 use Rattle.requests.specs.Accepted.{Length-right}
+use Rattle.requests.specs.Reader.{bad-length}
 
 pub catches-length : (n : ℕ) → Catches (bad-length n) (Length-right n)
 catches-length n =

@@ -3,7 +3,7 @@ pub mod TestLaws
 pub mod PlacedLaws
 pub mod CarriedLaws
 pub mod CarriedNext
-pub mod FaultLaws
+pub mod GoodRequests
 pub mod RuleLaws
 pub mod CheckLaws
 pub mod Exact

@@ -17,8 +17,9 @@ use Rattle.table.specs.TableOf.{table-of}
 use Rattle.table.proofs.ReadyLaws.{ready-tasks, ready-few}
 use Rattle.requests.specs.declared.entry.Entry.{Entry}
 use Rattle.requests.specs.declared.rules.SoFar.{SoFar}
-use Rattle.requests.specs.Rules.{out-of-order, misplaced, out-of-turn, fault-of, Placed}
-use Rattle.requests.proofs.TestLaws.{catches-place, first-10, first-11, first-none, none-10}
+use Rattle.requests.specs.Rules.{out-of-order, misplaced, out-of-turn, Placed}
+use Rattle.requests.specs.Reader.{fault-of}
+use Rattle.requests.proofs.TestLaws.{catches-place}
 
 pub last-arrival-is : last-arrival ≡ 65535
 unfolding last-arrival
@@ -54,7 +55,11 @@ module _ {s : List ℕ} {x : Entry} (b : SoFar) where
       let kept = catches-place (table-of s) b x .passed fine in record { known = kept .known; near = kept .near }
 
   pub fine-placed : {fault : ℕ} → fault ≡ fault-of (table-of s) b x → fault ≡ 0 → Placed s x
-  fine-placed is none = passed-placed (none-10 (misplaced (table-of s) b x) (out-of-turn b x) (sym is ∙ none))
+  fine-placed is none = passed-placed (which (misplaced (table-of s) b x) refl)
+    where
+      which : (r10 : Bool) → misplaced (table-of s) b x ≡ r10 → misplaced (table-of s) b x ≡ false
+      which true e = let ten : fault-of (table-of s) b x ≡ 10 = rw e in absurd (omega (arith, sym ten ∙ sym is ∙ none))
+      which false e = e
 
 pub misplaced-is : (s : List ℕ) (b : SoFar) (x : Entry) {strange early : Bool}
     → strange ≡ no-frame (table-of s) (x .task) (x .frame) → early ≡ out-of-order b x
@@ -64,14 +69,14 @@ misplaced-is s b x strange-is early-is = rw (strange-is, early-is, last-arrival-
 module _ {s : List ℕ} {plan : Plan} (ready : Ready s plan) (b : SoFar) (x : Entry) where
   module _ {r10 : Bool} (is-10 : r10 ≡ misplaced (table-of s) b x) where
     pub fault-10 : r10 ≡ true → 10 ≡ fault-of (table-of s) b x
-    fault-10 broken = sym (first-10 (out-of-turn b x) (sym is-10 ∙ broken))
+    fault-10 broken = sym (rw (sym is-10 ∙ broken))
 
     module _ (fine : r10 ≡ false) where
       pub passed-low : x .task < 16
       passed-low = known-low ready x (passed-placed {x = x} b (sym is-10 ∙ fine) .known)
 
       pub fault-11 : {r11 : Bool} → r11 ≡ out-of-turn b x → r11 ≡ true → 11 ≡ fault-of (table-of s) b x
-      fault-11 is-11 broken = sym (first-11 (sym is-10 ∙ fine) (sym is-11 ∙ broken))
+      fault-11 is-11 broken = sym (rw (sym is-10 ∙ fine, sym is-11 ∙ broken))
 
       pub fault-none : {r11 : Bool} → r11 ≡ out-of-turn b x → r11 ≡ false → 0 ≡ fault-of (table-of s) b x
-      fault-none is-11 kept = sym (first-none (sym is-10 ∙ fine) (sym is-11 ∙ kept))
+      fault-none is-11 kept = sym (rw (sym is-10 ∙ fine, sym is-11 ∙ kept))

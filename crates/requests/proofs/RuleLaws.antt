@@ -7,6 +7,7 @@ use mathlib.Core.Logic.{inl, inr}
 use mathlib.Core.List.{List}
 use native.Mathlib.Omega.{arith}
 use Rattle.laws.proofs.Cases.{lt-or-le}
+use Rattle.laws.proofs.LadderLaws.{Caught, rung}
 use Rattle.laws.proofs.Tests.{Catches, catches-as}
 use Rattle.model.specs.Task.{Table}
 use Rattle.model.specs.Request.{Before}
@@ -14,10 +15,9 @@ use Rattle.requests.specs.declared.entry.Entry.{Entry}
 use Rattle.requests.specs.declared.rules.SoFar.{SoFar}
 use Rattle.requests.specs.Entry.{entry-of, request-in, list-of}
 use Rattle.requests.specs.Rules.{misplaced, out-of-turn}
-use Rattle.requests.specs.Accepted.{In-place, In-turn}
+use Rattle.requests.specs.Accepted.{In-place, In-turn, rules}
 use Rattle.requests.proofs.TestLaws.{In-order, catches-place, catches-turn}
 use Rattle.requests.proofs.CarriedLaws.{Of-task, unseen, seen, Last, Carried, latest-next, latest-is}
-use Rattle.requests.proofs.FaultLaws.{Caught}
 
 module _ {table : Table} {s : List ℕ} {i : ℕ} {b : SoFar} (carried : Carried table s i b) where
   -- ---- rule 10
@@ -86,7 +86,7 @@ module _ {table : Table} {s : List ℕ} {i : ℕ} {b : SoFar} (carried : Carried
       (λ turn. record { frame = λ some. told of-task turn some .0; not-soon = λ some. told of-task turn some .1 })
       (catches-turn b (entry-of s i))
 
-  -- ---- both
+  -- ---- both: the test of rule 11 leans on rule 10
 
-  pub rules-caught : let x = entry-of s i in Caught table s i (misplaced table b x) (out-of-turn b x)
-  rules-caught = record { by-10 = catches-10; by-11 = catches-11 }
+  pub rules-caught : Caught (rules table) (b, entry-of s i) (s, i)
+  rules-caught = rung catches-10 (λ in-place. rung (catches-11 in-place) (λ in-turn. tt))

@@ -1,17 +1,15 @@
 -- The tests of the rules 10 and 11, of any table, state and record: what is left where each is false.
 -- Assumes nothing.
 use Prim.Native.Nat.{_+_, _≤_, _<_}
-use mathlib.Core.Path.{_≡_, refl}
-use mathlib.Core.Bool.{Bool, true, false}
+use mathlib.Core.Path.{_≡_}
 use lib.ListN.{getD}
-use native.Mathlib.Omega.{arith}
 use Rattle.laws.proofs.Tests.{Catches, catches-as, catches-lt, catches-ne, catches-or, catches-when, catches-past}
 use Rattle.model.specs.Task.{Table}
 use Rattle.model.specs.Request.{Has-frame, last-arrival}
 use Rattle.model.proofs.FrameLaws.{catches-frame}
 use Rattle.requests.specs.declared.entry.Entry.{Entry}
 use Rattle.requests.specs.declared.rules.SoFar.{SoFar}
-use Rattle.requests.specs.Rules.{misplaced, out-of-turn, first-broken}
+use Rattle.requests.specs.Rules.{misplaced, out-of-turn}
 
 -- ---- rule 10
 
@@ -61,18 +59,3 @@ catches-turn b x =
     (λ kept. record { frame = λ told. kept told .0; not-soon = λ told. kept told .1 })
     (λ kept told. (kept .frame told, kept .not-soon told))
     (catches-past 0 _ (catches-or (catches-ne _ _) (catches-lt _ _)))
-
--- ---- the first that is broken
-
-pub first-10 : {r10 : Bool} (r11 : Bool) → r10 ≡ true → first-broken r10 r11 ≡ 10
-first-10 r11 first = rw first
-
-pub first-11 : {r10 r11 : Bool} → r10 ≡ false → r11 ≡ true → first-broken r10 r11 ≡ 11
-first-11 fine next = rw (fine, next)
-
-pub first-none : {r10 r11 : Bool} → r10 ≡ false → r11 ≡ false → first-broken r10 r11 ≡ 0
-first-none fine on-time = rw (fine, on-time)
-
-pub none-10 : (r10 r11 : Bool) → first-broken r10 r11 ≡ 0 → r10 ≡ false
-none-10 true r11 none = absurd (omega arith)
-none-10 false r11 none = refl

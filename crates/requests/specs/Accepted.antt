@@ -2,13 +2,16 @@
 -- Assumes nothing.
 use Prim.Native.Nat.{ℕ, _+_, _*_, _%_, _≤_, _<_}
 use mathlib.Core.Path.{_≡_}
-use mathlib.Core.List.{List}
+use mathlib.Core.List.{List, [], _∷_}
 use lib.ListN.{length}
+use Rattle.laws.specs.Ladder.{Rule, rule}
 use Rattle.model.specs.Task.{Table}
 use Rattle.model.specs.Request.{Has-frame, Next, Follows, Legal, Before, Sorted, last-arrival}
 use Rattle.table.specs.Bytes.{size, records}
-use Rattle.requests.specs.Entry.{entry-of, list-of}
-use Rattle.requests.specs.Reader.{most-requests}
+use Rattle.requests.specs.declared.entry.Entry.{Entry}
+use Rattle.requests.specs.declared.rules.SoFar.{SoFar}
+use Rattle.requests.specs.Entry.{most-requests, entry-of, list-of}
+use Rattle.requests.specs.Rules.{misplaced, out-of-turn}
 
 -- rule 10, the length: "A list has 0 to 128 records"
 pub record Length-right (n : ℕ) : Type 0 where
@@ -26,7 +29,15 @@ pub record In-place (table : Table) (s : List ℕ) (j : ℕ) : Type 0 where
 abbrev pub In-turn : Table → List ℕ → ℕ → Type 0
 In-turn table s j = (i : ℕ) → Next (list-of s) i j → Follows table (list-of s .request i) (list-of s .request j)
 
--- the rules of one record, in the document's order
+-- "in each record 10 before 11": each rule's number; its test, of record x after what is carried, b; and what it says
+-- of record j of the bytes s
+abbrev pub rules : Table → List (Rule (SoFar × Entry) (List ℕ × ℕ))
+rules table =
+    rule 10 (λ (b, x). misplaced table b x) (λ (s, j). In-place table s j)
+    ∷ rule 11 (λ (b, x). out-of-turn b x) (λ (s, j). In-turn table s j)
+    ∷ []
+
+-- record j keeps them both
 pub record Good (table : Table) (s : List ℕ) (j : ℕ) : Type 0 where
   pub in-place : In-place table s j
   pub in-turn : In-turn table s j

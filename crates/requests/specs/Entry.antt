@@ -7,6 +7,10 @@ use Rattle.model.specs.Request.{Request, Requests}
 use Rattle.table.specs.Bytes.{size, records, half}
 use Rattle.requests.specs.declared.entry.Entry.{Entry}
 
+-- "A list has 0 to 128 records"
+abbrev pub most-requests : ℕ
+most-requests = 128
+
 -- "32 bits low byte first"
 abbrev pub word : List ℕ → ℕ → ℕ
 word s at = half s at + 65536 * half s (at + 2)

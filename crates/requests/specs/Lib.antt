@@ -1,5 +1,5 @@
 pub mod Entry
 pub mod Rules
-pub mod Reader
 pub mod Accepted
+pub mod Reader
 pub mod Refusals

@@ -6,6 +6,7 @@ use mathlib.Core.List.{List}
 use mathlib.Core.Bool.{Bool, not, _||_}
 use lib.ListN.{length}
 use lib.Dec.{ltb, eqb}
+use Rattle.laws.specs.Ladder.{climb}
 use Rattle.laws.specs.Reader.{Reader, Read, whole, stopped, read-all}
 use Rattle.model.specs.Task.{Table}
 use Rattle.table.specs.Bytes.{size, records}
@@ -14,16 +15,17 @@ use Rattle.requests.specs.declared.entry.Entry.{Entry}
 use Rattle.requests.specs.declared.rules.SoFar.{SoFar}
 use Rattle.requests.specs.declared.reader.Checked.{Checked}
 use Rattle.requests.specs.declared.reader.Checked.the-variants.{Legal, Refused}
-use Rattle.requests.specs.Entry.{entry-of}
-use Rattle.requests.specs.Rules.{none-yet, fault-of, after-of}
-
--- "A list has 0 to 128 records"
-abbrev pub most-requests : ℕ
-most-requests = 128
+use Rattle.requests.specs.Entry.{most-requests, entry-of}
+use Rattle.requests.specs.Rules.{none-yet, after-of}
+use Rattle.requests.specs.Accepted.{rules}
 
 -- 10: "list length not a multiple of 8 or above 1,024 (index 0)"
 abbrev pub bad-length : ℕ → Bool
 bad-length n = ltb (most-requests * size) n || not (eqb (n % size) 0)
+
+-- "in each record 10 before 11": the number of the first that is broken, or 0
+abbrev pub fault-of : Table → SoFar → Entry → ℕ
+fault-of table b x = climb (rules table) (λ number index. number) (b, x) 0
 
 -- how a list is read: rule 10 by its length, then the rules 10 and 11 record by record
 abbrev pub reader-of : Table → List ℕ → Reader SoFar Entry

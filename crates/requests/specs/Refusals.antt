@@ -4,15 +4,15 @@ use Prim.Native.Nat.{ℕ}
 use mathlib.Core.Logic.{_⊎_}
 use mathlib.Core.List.{List}
 use lib.ListN.{length}
+use Rattle.laws.specs.Ladder as Ladder
 use Rattle.laws.specs.Reader.{Bad-length, Bad-record}
 use Rattle.model.specs.Task.{Table}
 use Rattle.table.specs.Bytes.{records}
-use Rattle.requests.specs.Accepted.{Length-right, In-place, In-turn, Good}
+use Rattle.requests.specs.Accepted.{Length-right, rules, Good}
 
 -- the first rule that record j breaks, "in each record 10 before 11"
-pub data Breaks (table : Table) (s : List ℕ) (j : ℕ) : ℕ → Type 0 where
-  breaks-10 : (In-place table s j → ⊥) → Breaks table s j 10
-  breaks-11 : In-place table s j → (In-turn table s j → ⊥) → Breaks table s j 11
+abbrev pub Breaks : Table → List ℕ → ℕ → ℕ → Type 0
+Breaks table s j number = Ladder.Breaks (rules table) (s, j) number 0
 
 -- the refusal that the document's table gives these bytes: 10 for a wrong length, or that of the first bad record
 abbrev pub Refused-with : Table → List ℕ → ℕ → ℕ → Type 0

@@ -1,8 +1,9 @@
 -- The rules 10 and 11 as the reader tests them, record by record: document 01, "When the desk says no".
+-- A test's name says how the rule is broken. What each rule says, and their order: Accepted.
 -- Assumes nothing.
 use Prim.Native.Nat.{ℕ, _+_, _≤_}
 use mathlib.Core.List.{List}
-use mathlib.Core.Bool.{Bool, not, cond, _&&_, _||_}
+use mathlib.Core.Bool.{Bool, not, _&&_, _||_}
 use lib.Dec.{ltb, eqb}
 use lib.ListN.{getD, set, replicate}
 use Rattle.model.specs.Task.{Table}
@@ -30,13 +31,6 @@ abbrev pub out-of-turn : SoFar → Entry → Bool
 out-of-turn b x =
     let next = getD (b .next) (x .task) 0 in
     ltb 0 next && (not (eqb (x .frame + 1) next) || ltb (x .arrival) (getD (b .from) (x .task) 0))
-
--- "in each record 10 before 11": the first that is broken, or 0
-abbrev pub first-broken : Bool → Bool → ℕ
-first-broken r10 r11 = cond r10 10 (cond r11 11 0)
-
-abbrev pub fault-of : Table → SoFar → Entry → ℕ
-fault-of table b x = first-broken (misplaced table b x) (out-of-turn b x)
 
 -- ---- what is known after a good record
 

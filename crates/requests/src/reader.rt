@@ -9,7 +9,7 @@ ghost use Rattle.table.specs.TableOf.{table-of};
 ghost use Rattle.requests.specs.Reader.{bad-length, check-of, refusal-in};
 
 // The most requests of a list.
-pub const MOST: usize = 128;
+pub const MOST_REQUESTS: usize = 128;
 
 // A legal list by its number of records, or the refusal.
 pub enum Checked {
@@ -20,7 +20,7 @@ pub enum Checked {
 fn is_bad_length(n: usize) -> bool
     ensures { λ r. ⌜ r ≡ bad-length n ⌝ }
 {
-    (MOST * SIZE < n) | (n % SIZE != 0)
+    (MOST_REQUESTS * SIZE < n) | (n % SIZE != 0)
 }
 
 // The whole list: how many records it has, or the first refusal.

@@ -13,8 +13,8 @@ use Rattle.table.specs.declared.reader.Shape.{Shape}
 use Rattle.table.specs.declared.reader.Refusal.{Refusal}
 use Rattle.table.specs.declared.reader.Reading.{Reading}
 use Rattle.table.specs.declared.reader.Reading.the-variants.{Table, Refused}
-use Rattle.table.specs.Bytes.{size, records}
-use Rattle.table.specs.Reader.{most-records, reader-of, reading-in, reading-of}
+use Rattle.table.specs.Bytes.{size, most-records, records}
+use Rattle.table.specs.Reader.{reader-of, reading-in, reading-of}
 use Rattle.table.specs.WellFormed.{WellFormed}
 use Rattle.table.specs.Refusals.{Refused-with}
 use Rattle.table.specs.TableOf.{table-of}

@@ -3,7 +3,7 @@ pub mod Turns
 pub mod Counting
 pub mod KnownLaws
 pub mod KnownNext
-pub mod FaultLaws
+pub mod GoodRecords
 pub mod RuleLaws
 pub mod ReadLaws
 pub mod Rising

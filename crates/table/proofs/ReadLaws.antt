@@ -2,22 +2,24 @@
 -- which a reader is exact.
 -- Assumes nothing.
 use Prim.Native.Nat.{ℕ}
-use mathlib.Core.Path.{_≡_, sym}
+use mathlib.Core.Path.{_≡_, refl, sym}
+use mathlib.Core.Logic.{inl, inr}
 use mathlib.Core.List.{List}
 use lib.ListN.{length}
 use Rattle.laws.specs.Reader.{whole, stopped, read-all}
+use Rattle.laws.proofs.LadderLaws.{climb-kept, climb-broken, keeps-or-named}
 use Rattle.laws.proofs.ReaderExact.{Rules}
 use Rattle.table.specs.declared.rules.SoFar.{SoFar}
 use Rattle.table.specs.declared.reader.Shape.{Shape}
 use Rattle.table.specs.declared.reader.Reading.the-variants.{Table, Refused}
-use Rattle.table.specs.Bytes.{records}
+use Rattle.table.specs.Bytes.{records, record-of}
 use Rattle.table.specs.Reader.{reader-of, reading-of}
-use Rattle.table.specs.WellFormed.{Length-right, Good}
+use Rattle.table.specs.WellFormed.{Length-right, rules, Good}
 use Rattle.table.specs.Refusals.{Breaks}
 use Rattle.table.proofs.LengthLaws.{catches-length}
 use Rattle.table.proofs.KnownLaws.{Known, known-start}
 use Rattle.table.proofs.KnownNext.{known-next}
-use Rattle.table.proofs.FaultLaws.{good-first, breaks-first, good-or-breaks}
+use Rattle.table.proofs.GoodRecords.{good-keeps, keeps-good, breaks-some}
 use Rattle.table.proofs.RuleLaws.{rules-caught}
 
 -- ---- the answer
@@ -45,8 +47,14 @@ rules-of s =
       long = catches-length (length s);
       start = known-start s;
       next = λ i b known good. known-next known good;
-      passes = λ i b known good. good-first (rules-caught known) good;
-      stops = λ i b number known breaks. breaks-first (rules-caught known) breaks;
-      numbered = λ i breaks. elim breaks [ ];
-      either = λ i b known. good-or-breaks (rules-caught known);
+      passes = λ i b known good.
+          climb-kept (λ number index. number) (b, record-of s i) (s, i) 0 rules (rules-caught known) (good-keeps good);
+      stops = λ i b number known breaks.
+          climb-broken (λ number index. number) (b, record-of s i) (s, i) 0 rules number 0 (rules-caught known) breaks;
+      numbered = breaks-some s;
+      either = λ i b known.
+          elim (keeps-or-named (b, record-of s i) (s, i) rules refl (rules-caught known)) [
+            | inl keeps ↦ inl (keeps-good s i keeps)
+            | inr breaks ↦ inr breaks
+          ];
     }

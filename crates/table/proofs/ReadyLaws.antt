@@ -10,9 +10,9 @@ use lib.Dec.{leb}
 use borrow.Author.Tests.{le-leb, lt-leb}
 use Rattle.model.specs.Request.{Has-frame, no-frame}
 use Rattle.model.specs.Task.{ProperTable}
-use Rattle.table.specs.Bytes.{Bytes, size, record-of}
+use Rattle.table.specs.Bytes.{Bytes, size, most-records, record-of}
 use Rattle.table.specs.TableOf.{task-of, table-of, plan-of}
-use Rattle.table.specs.Reader.{most-records, reading-of}
+use Rattle.table.specs.Reader.{reading-of}
 use Rattle.table.specs.Ready.{Ready, Stands-at, Frame-is, Frames}
 use Rattle.table.specs.declared.frame.Place.{Place}
 use Rattle.table.specs.declared.plan.Plan.{Plan}

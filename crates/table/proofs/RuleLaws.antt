@@ -4,13 +4,13 @@ use Prim.Native.Nat.{ℕ, _+_, _-_, _≤_, _<_}
 use mathlib.Core.Path.{_≡_, sym, _∙_}
 use mathlib.Core.List.{List}
 use native.Mathlib.Omega.{arith}
+use Rattle.laws.proofs.LadderLaws.{Caught, rung}
 use Rattle.laws.proofs.Tests.{Catches, catches-as, catches-lt, catches-le, catches-eq, catches-ne, catches-neither, catches-or, catches-when}
 use Rattle.table.specs.declared.record.Record.{Record}
 use Rattle.table.specs.declared.rules.SoFar.{SoFar}
 use Rattle.table.specs.Bytes.{record-of}
 use Rattle.table.specs.Rules.{off-run, bad-kind, too-many, has-zero, uneven}
-use Rattle.table.specs.WellFormed.{In-run, Kind-right, Has-room, Not-zero, Even}
-use Rattle.table.proofs.FaultLaws.{Caught}
+use Rattle.table.specs.WellFormed.{In-run, Kind-right, Has-room, Not-zero, Even, rules}
 use Rattle.table.proofs.KnownLaws.{Known, in-run-of, next-task, shared, on-before, on-first, on-kind, on-p}
 
 -- what is left where the tests of the rules 3 to 6 are false, of record x after what is known, b
@@ -107,8 +107,12 @@ module _ {s : List ℕ} {i : ℕ} {b : SoFar} (known : Known s i b) where
       catches-as (even in-run right) (even-kept right)
       (catches-when _ 2 (catches-or (catches-ne _ _) (catches-when _ _ (catches-ne _ _))))
 
-  -- ---- all five
+  -- ---- all of them: a test may lean on the rules above its own
 
-  pub rules-caught : let x = record-of s i in
-      Caught s i (off-run b x) (bad-kind b x) (too-many b x) (has-zero x) (uneven b x)
-  rules-caught = record { by-2 = catches-2; by-3 = catches-3; by-4 = catches-4; by-5 = catches-5; by-6 = catches-6 }
+  pub rules-caught : Caught rules (b, record-of s i) (s, i)
+  rules-caught =
+      rung catches-2 (λ in-run.
+      rung (catches-3 in-run) (λ kind-right.
+      rung (catches-4 in-run) (λ has-room.
+      rung catches-5 (λ not-zero.
+      rung (catches-6 in-run kind-right) (λ even. tt)))))

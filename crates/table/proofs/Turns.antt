@@ -9,9 +9,9 @@ use native.Mathlib.Omega.{arith}
 use Rattle.laws.proofs.ReaderLaws.{Reads-on, reads-start, reads-turn}
 use Rattle.table.specs.declared.record.Record.{Record}
 use Rattle.table.specs.declared.rules.SoFar.{SoFar}
-use Rattle.table.specs.Bytes.{records, record-of}
-use Rattle.table.specs.Rules.{none-yet, begins, fault-of, after-of}
-use Rattle.table.specs.Reader.{most-records, bad-length, reader-of}
+use Rattle.table.specs.Bytes.{most-records, records, record-of}
+use Rattle.table.specs.Rules.{none-yet, begins, after-of}
+use Rattle.table.specs.Reader.{bad-length, fault-of, reader-of}
 use Rattle.table.proofs.LengthLaws.{catches-length, right-few}
 
 -- before record i, with b known of the records passed

@@ -15,6 +15,10 @@ Bytes s = (i : ℕ) → Fits w8 (getD s i 0)
 abbrev pub size : ℕ
 size = 8
 
+-- "At most 64 records"
+abbrev pub most-records : ℕ
+most-records = 64
+
 -- how many whole records the bytes are
 abbrev pub records : List ℕ → ℕ
 records s = length s / size

@@ -1,7 +1,7 @@
 pub mod Bytes
 pub mod Rules
-pub mod Reader
 pub mod WellFormed
+pub mod Reader
 pub mod Refusals
 pub mod TableOf
 pub mod Ready

@@ -6,22 +6,24 @@ use mathlib.Core.List.{List}
 use mathlib.Core.Bool.{Bool, not, _||_}
 use lib.ListN.{length}
 use lib.Dec.{ltb, eqb}
+use Rattle.laws.specs.Ladder.{climb}
 use Rattle.laws.specs.Reader.{Reader, Read, whole, stopped, read-all}
 use Rattle.table.specs.declared.record.Record.{Record}
 use Rattle.table.specs.declared.rules.SoFar.{SoFar}
 use Rattle.table.specs.declared.reader.Refusal.{Refusal}
 use Rattle.table.specs.declared.reader.Reading.{Reading}
 use Rattle.table.specs.declared.reader.Reading.the-variants.{Table, Refused}
-use Rattle.table.specs.Bytes.{size, records, record-of}
-use Rattle.table.specs.Rules.{none-yet, fault-of, after-of}
-
--- "At most 64 records"
-abbrev pub most-records : ℕ
-most-records = 64
+use Rattle.table.specs.Bytes.{size, most-records, records, record-of}
+use Rattle.table.specs.Rules.{none-yet, after-of}
+use Rattle.table.specs.WellFormed.{rules}
 
 -- 1: "table length 0, above 512, or not a multiple of 8"
 abbrev pub bad-length : ℕ → Bool
 bad-length n = (eqb n 0 || ltb (most-records * size) n) || not (eqb (n % size) 0)
+
+-- "in each record 2, 3, 4, 5, 6": the number of the first that is broken, or 0
+abbrev pub fault-of : SoFar → Record → ℕ
+fault-of b x = climb rules (λ number index. number) (b, x) 0
 
 -- how a table is read: rule 1 by its length, then the rules 2 to 6 record by record
 abbrev pub reader-of : List ℕ → Reader SoFar Record

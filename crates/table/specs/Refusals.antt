@@ -4,17 +4,14 @@ use Prim.Native.Nat.{ℕ}
 use mathlib.Core.Logic.{_⊎_}
 use mathlib.Core.List.{List}
 use lib.ListN.{length}
+use Rattle.laws.specs.Ladder as Ladder
 use Rattle.laws.specs.Reader.{Bad-length, Bad-record}
 use Rattle.table.specs.Bytes.{records}
-use Rattle.table.specs.WellFormed.{Length-right, In-run, Kind-right, Has-room, Not-zero, Even, Good}
+use Rattle.table.specs.WellFormed.{Length-right, rules, Good}
 
 -- refusals 2 to 6: the first rule that record j breaks, "in each record 2, 3, 4, 5, 6"
-pub data Breaks (s : List ℕ) (j : ℕ) : ℕ → Type 0 where
-  breaks-2 : (In-run s j → ⊥) → Breaks s j 2
-  breaks-3 : In-run s j → (Kind-right s j → ⊥) → Breaks s j 3
-  breaks-4 : In-run s j → Kind-right s j → (Has-room s j → ⊥) → Breaks s j 4
-  breaks-5 : In-run s j → Kind-right s j → Has-room s j → (Not-zero s j → ⊥) → Breaks s j 5
-  breaks-6 : In-run s j → Kind-right s j → Has-room s j → Not-zero s j → (Even s j → ⊥) → Breaks s j 6
+abbrev pub Breaks : List ℕ → ℕ → ℕ → Type 0
+Breaks s j number = Ladder.Breaks rules (s, j) number 0
 
 -- the refusal that the document's table gives these bytes: 1 for a wrong length, or that of the first bad record
 abbrev pub Refused-with : List ℕ → ℕ → ℕ → Type 0

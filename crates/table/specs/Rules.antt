@@ -1,7 +1,7 @@
 -- The rules 2 to 6 as the reader tests them, record by record: document 01, "When the desk says no".
--- A rule's name says how it is broken. A new rule is a line more in `fault-of`.
+-- A test's name says how the rule is broken. What each rule says, and their order: WellFormed.
 -- Assumes nothing.
-use Prim.Native.Nat.{ℕ, _+_}
+use Prim.Native.Nat.{_+_}
 use mathlib.Core.Bool.{Bool, not, cond, _&&_, _||_}
 use lib.Dec.{ltb, leb, eqb}
 use Rattle.table.specs.declared.record.Record.{Record}
@@ -39,13 +39,6 @@ has-zero x = (eqb (x .e) 0 || eqb (x .d) 0) || eqb (x .p) 0
 -- 6: "kind 2 with D not P, or P unlike the task's first"
 abbrev pub uneven : SoFar → Record → Bool
 uneven b x = eqb (x .kind) 2 && (not (eqb (x .d) (x .p)) || (goes-on b x && not (eqb (x .p) (b .p))))
-
--- "in each record 2, 3, 4, 5, 6": the first that is broken, or 0
-abbrev pub first-broken : Bool → Bool → Bool → Bool → Bool → ℕ
-first-broken r2 r3 r4 r5 r6 = cond r2 2 (cond r3 3 (cond r4 4 (cond r5 5 (cond r6 6 0))))
-
-abbrev pub fault-of : SoFar → Record → ℕ
-fault-of b x = first-broken (off-run b x) (bad-kind b x) (too-many b x) (has-zero x) (uneven b x)
 
 -- what is known after a good record
 abbrev pub after-of : SoFar → Record → SoFar

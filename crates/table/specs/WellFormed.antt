@@ -3,10 +3,13 @@
 use Prim.Native.Nat.{ℕ, _+_, _*_, _%_, _≤_, _<_}
 use mathlib.Core.Path.{_≡_}
 use mathlib.Core.Logic.{_⊎_}
-use mathlib.Core.List.{List}
+use mathlib.Core.List.{List, [], _∷_}
 use lib.ListN.{length}
-use Rattle.table.specs.Bytes.{size, records, record-of}
-use Rattle.table.specs.Reader.{most-records}
+use Rattle.laws.specs.Ladder.{Rule, rule}
+use Rattle.table.specs.declared.record.Record.{Record}
+use Rattle.table.specs.declared.rules.SoFar.{SoFar}
+use Rattle.table.specs.Bytes.{size, most-records, records, record-of}
+use Rattle.table.specs.Rules.{off-run, bad-kind, too-many, has-zero, uneven}
 
 -- records i and j, i the earlier, are frames of one task
 pub record Same-task (s : List ℕ) (i j : ℕ) : Type 0 where
@@ -48,7 +51,18 @@ pub record Even (s : List ℕ) (j : ℕ) : Type 0 where
   pub due : record-of s j .kind ≡ 2 → record-of s j .d ≡ record-of s j .p
   pub steady : (i : ℕ) → Same-task s i j → record-of s j .kind ≡ 2 → record-of s j .p ≡ record-of s i .p
 
--- the rules of one record, in the document's order
+-- "in each record 2, 3, 4, 5, 6": each rule's number; its test, of record x after what is known, b; and what it says
+-- of record j of the bytes s
+abbrev pub rules : List (Rule (SoFar × Record) (List ℕ × ℕ))
+rules =
+    rule 2 (λ (b, x). off-run b x) (λ (s, j). In-run s j)
+    ∷ rule 3 (λ (b, x). bad-kind b x) (λ (s, j). Kind-right s j)
+    ∷ rule 4 (λ (b, x). too-many b x) (λ (s, j). Has-room s j)
+    ∷ rule 5 (λ (b, x). has-zero x) (λ (s, j). Not-zero s j)
+    ∷ rule 6 (λ (b, x). uneven b x) (λ (s, j). Even s j)
+    ∷ []
+
+-- record j keeps them all
 pub record Good (s : List ℕ) (j : ℕ) : Type 0 where
   pub in-run : In-run s j
   pub kind-right : Kind-right s j

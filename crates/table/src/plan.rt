@@ -2,8 +2,7 @@
 ghost use mathlib.Core.Path.{_≡_};
 ghost use Prim.Native.Nat.{_*_, _<_, _≤_};
 ghost use lib.ListN.{length};
-ghost use Rattle.table.specs.Bytes.{size};
-ghost use Rattle.table.specs.Reader.{most-records};
+ghost use Rattle.table.specs.Bytes.{size, most-records};
 ghost use Rattle.laws.specs.Sums.{only};
 ghost use Rattle.table.specs.TableOf.{records-before, plan-of};
 

@@ -5,7 +5,7 @@ ghost use mathlib.Core.Path.{_≡_};
 ghost use Rattle.table.specs.Reader.{bad-length, reading-of, refusal-in};
 
 // The most records of a table.
-pub const MOST: usize = 64;
+pub const MOST_RECORDS: usize = 64;
 
 pub struct Shape {
     pub records: usize,
@@ -27,7 +27,7 @@ pub enum Reading {
 fn is_bad_length(n: usize) -> bool
     ensures { λ r. ⌜ r ≡ bad-length n ⌝ }
 {
-    (n == 0) | (MOST * SIZE < n) | (n % SIZE != 0)
+    (n == 0) | (MOST_RECORDS * SIZE < n) | (n % SIZE != 0)
 }
 
 // The whole table: its shape, or the first refusal.

@@ -3,7 +3,8 @@ use crate::record::Record;
 ghost use mathlib.Core.Path.{_≡_};
 ghost use mathlib.Core.Bool.{cond};
 ghost use Prim.Native.Nat.{_<_};
-ghost use Rattle.table.specs.Rules.{first-broken, fault-of, after-of};
+ghost use Rattle.table.specs.Reader.{fault-of};
+ghost use Rattle.table.specs.Rules.{after-of};
 
 // What the records so far say: how many tasks, and of the last one its frames so far, its kind and its first P.
 pub struct SoFar {
@@ -15,7 +16,7 @@ pub struct SoFar {
 
 // The number of the first rule that is broken, or 0.
 fn first_of(r2: bool, r3: bool, r4: bool, r5: bool, r6: bool) -> u8
-    ensures { λ r. ⌜ r ≡ first-broken r2 r3 r4 r5 r6 ⌝ }
+    ensures { λ r. ⌜ r ≡ cond r2 2 (cond r3 3 (cond r4 4 (cond r5 5 (cond r6 6 0)))) ⌝ }
 {
     if r2 {
         2

@@ -4,7 +4,8 @@
 use Prim.Native.Nat.{_-_}
 use mathlib.Core.Path.{refl}
 use borrow.Author.Needs.{needs}
-use Rattle.bench.specs.Rule.{slots, slot-jobs}
+use Rattle.requests.specs.Entry.{most-requests}
+use Rattle.bench.specs.Rule.{slot-jobs}
 use Rattle.bench.specs.Scan.{Tried}
 use Rattle.bench.proofs.NextLaws.{tried-start, tried-end}
 use Rattle.bench.proofs.next.next_of.Statement.{statement}
@@ -14,7 +15,7 @@ abbrev Inv-loop : tie.InvT-loop
 Inv-loop left due arrive task t best₀ i₀ best i = Tried (slot-jobs left due arrive task) t i best
 
 abbrev μ-loop : tie.MeasureT-loop
-μ-loop left due arrive task t best₀ i₀ best i = slots - i
+μ-loop left due arrive task t best₀ i₀ best i = most-requests - i
 
 loop-holds : tie.Need-loop-holds Inv-loop μ-loop
 loop-holds c = tried-start _ _

@@ -6,15 +6,16 @@ use mathlib.Core.Path.{ap}
 use borrow.Author.Needs.{needs}
 use Rattle.laws.specs.Search.{place-or}
 use Rattle.laws.proofs.SearchLaws.{Seeking, seeking-start, seeking-hit, seeking-on, seeking-end}
-use Rattle.bench.specs.Rule.{slots, is-late}
+use Rattle.requests.specs.Entry.{most-requests}
+use Rattle.bench.specs.Rule.{is-late}
 use Rattle.bench.proofs.scan.first_late.Statement.{statement}
 use Rattle.bench.proofs.scan.first_late.Tie as tie
 
 abbrev Inv-loop : tie.InvT-loop
-Inv-loop left due t i₀ i = Seeking (is-late left due t) slots 0 i
+Inv-loop left due t i₀ i = Seeking (is-late left due t) most-requests 0 i
 
 abbrev μ-loop : tie.MeasureT-loop
-μ-loop left due t i₀ i = slots - i
+μ-loop left due t i₀ i = most-requests - i
 
 loop-holds : tie.Need-loop-holds Inv-loop μ-loop
 loop-holds c = seeking-start _ _ _
@@ -23,7 +24,7 @@ returns : tie.Need-returns Inv-loop μ-loop
 returns c =
     let read = c .before .before in
     let at-loop = read .before .before in
-    ap (place-or slots) (seeking-hit (at-loop .loop .inv) (search needs) (c .if1 .taken))
+    ap (place-or most-requests) (seeking-hit (at-loop .loop .inv) (search needs) (c .if1 .taken))
 
 loop-again : tie.Need-loop-again Inv-loop μ-loop
 loop-again c =
@@ -32,7 +33,7 @@ loop-again c =
     seeking-on (at-loop .loop .inv) (search needs) (c .if1 .left)
 
 returns-2 : tie.Need-returns-2 Inv-loop μ-loop
-returns-2 c = ap (place-or slots) (seeking-end (c .before .loop .inv) (search needs))
+returns-2 c = ap (place-or most-requests) (seeking-end (c .before .loop .inv) (search needs))
 
 pub first-late-spec : {M : Type 1} → statement M
 first-late-spec =

@@ -1,0 +1,22 @@
+-- A good record of a list is one that keeps both rules, by name; and 0 is the number of none.
+-- Assumes nothing.
+use Prim.Native.Nat.{ℕ}
+use mathlib.Core.Path.{refl}
+use mathlib.Core.Bool.{false≢true}
+use mathlib.Core.List.{List}
+use lib.Dec.{ltb}
+use Rattle.laws.specs.Ladder.{Keeps}
+use Rattle.laws.proofs.LadderLaws.{breaks-number}
+use Rattle.model.specs.Task.{Table}
+use Rattle.requests.specs.Accepted.{rules, Good}
+use Rattle.requests.specs.Refusals.{Breaks}
+
+pub good-keeps : {table : Table} {s : List ℕ} {j : ℕ} → Good table s j → Keeps (rules table) (s, j)
+good-keeps good = (good .in-place, (good .in-turn, tt))
+
+module _ (table : Table) (s : List ℕ) (j : ℕ) where
+  pub keeps-good : Keeps (rules table) (s, j) → Good table s j
+  keeps-good (in-place, (in-turn, all)) = record { in-place = in-place; in-turn = in-turn }
+
+  pub breaks-some : Breaks table s j 0 → ⊥
+  breaks-some breaks = false≢true (breaks-number (s, j) (ltb 0) (rules table) refl 0 0 breaks)

@@ -15,8 +15,8 @@ use Rattle.table.specs.declared.reader.Shape.{Shape}
 use Rattle.table.specs.declared.reader.Refusal.{Refusal}
 use Rattle.table.specs.declared.reader.Reading.{Reading}
 use Rattle.table.specs.declared.reader.Reading.the-variants as reading
-use Rattle.table.specs.Reader.{most-records, reading-of, refusal-in}
-use Rattle.table.specs.Bytes.{size}
+use Rattle.table.specs.Reader.{reading-of, refusal-in}
+use Rattle.table.specs.Bytes.{size, most-records}
 use Rattle.table.specs.TableOf.{table-of, plan-of}
 use Rattle.table.specs.declared.plan.Plan.{Plan}
 use Rattle.table.proofs.Exact.{shaped}

@@ -1,11 +1,11 @@
 -- How a question is shown to be refused exactly: by what its answer tells, whichever answer it is. And what follows: of
--- a question that is answered no refusal is given, and of any question one at most.
+-- a question that is answered no refusal is given.
 -- Assumes nothing.
 use Prim.Native.Nat.{ℕ}
 use mathlib.Core.Path.{_≡_, refl, subst}
 use native.Mathlib.Omega.{arith}
 use Rattle.model.specs.Answer.{Answer, answered, refused}
-use Rattle.promise.specs.Refusals.{Answered, Exactly}
+use Rattle.promise.specs.Given.{Answered, Exactly}
 
 -- a refusal tells that it is one of those that are given
 pub exactly : {A : Type 0} (Told : Answer A → Type 0) {said : Answer A}
@@ -23,12 +23,6 @@ pub answered-none : {A : Type 0} {Given : ℕ → ℕ → Type 0} {said : Answer
     → {value : A} → said ≡ answered value → (number index : ℕ) → Given number index → ⊥
 answered-none exact is number index given =
     let apart : _≡_ {A = ℕ} 0 1 = cc (exact .refuses number index given) in absurd (omega arith)
-
--- and of two that are given both are the one it gets
-pub one-refusal : {A : Type 0} {Given : ℕ → ℕ → Type 0} {said : Answer A} → Exactly Given said
-    → (n i m j : ℕ) → Given n i → Given m j → (n ≡ m) × (i ≡ j)
-one-refusal exact n i m j one other =
-    let first = exact .refuses n i one in let second = exact .refuses m j other in (cc, cc)
 
 -- where nothing is to be told of an answer
 abbrev pub Given-only : {A : Type 0} → (ℕ → ℕ → Type 0) → Answer A → Type 0

@@ -1,66 +1,66 @@
--- The questions of the named numbers, and what the rules say to each.
+-- Every question that may be asked of the bytes of a table, and a row for each: what the rules say to it, which refusals
+-- the document gives it, how its answer is laid flat, and what it leaves in a lent buffer. A new question is a line of
+-- `Question` and a row here, and a line each in Contracts.
 -- Assumes nothing.
 use mathlib.Core.Path.{_≡_}
-use mathlib.Core.List.{List}
+use mathlib.Core.List.{List, []}
 use Prim.Native.Nat.{ℕ}
-use Rattle.laws.specs.Sums.{tabulate}
-use Rattle.model.specs.Verdict.{Verdict}
-use Rattle.model.specs.Replay.{Replayed}
-use Rattle.model.specs.Response.{Response, value, higher-share}
 use Rattle.model.specs.Answer.{Answer}
-use Rattle.table.specs.TableOf.{table-of}
-use Rattle.overload.specs.declared.write.Written.{Written}
-use Rattle.overload.specs.Place.{written-of, buffer-after}
-use Rattle.desk.specs.Questions.{demand-asked, verdict-asked, replay-asked}
-use Rattle.desk.specs.Overload.{overload-asked}
-use Rattle.desk.specs.Response.{response-asked}
+use Rattle.overload.specs.Place.{buffer-after}
+use Rattle.desk.specs.Orders.{table-only, time-order, task-order, frame-order, size-order, writing-order}
+use Rattle.desk.specs.Questions.{read-asked, demand-asked, work-asked, margin-asked, window-asked, verdict-asked, response-asked, size-asked, overload-asked}
+use Rattle.desk.specs.ListQuestions.{list-asked, load-asked, replay-asked}
+use Rattle.promise.specs.Given.{Given, List-given}
+use Rattle.promise.specs.Forms.{Form, shape-form, amount-form, margin-form, window-form, verdict-form, response-form, size-form, written-form, listed-form, loading-form, ending-form}
 
 pub data Question : Type 0 where
-  demand-of : (task t : ℕ) → Question
-  verdict-on : Question
-  replay-with : (list : List ℕ) → Question
-  overload-into : (buffer : List ℕ) (place : ℕ) → Question
-  response-to : (task frame : ℕ) → Question
-  first-values : (many task frame : ℕ) → Question
+  read : Question
+  demand : (task t : ℕ) → Question
+  work : (task w : ℕ) → Question
+  margin : (t : ℕ) → Question
+  window : Question
+  verdict : Question
+  response : (task frame : ℕ) → Question
+  overload-size : Question
+  overload : (buffer : List ℕ) (place : ℕ) → Question
+  list : (bytes : List ℕ) → Question
+  load : (bytes : List ℕ) → Question
+  replay : (bytes : List ℕ) → Question
 
--- a writer's answer; the bytes that it was to write, or its refusal; and the buffer as it leaves it
-pub record Leaves : Type 0 where
-  pub answer : Written
-  pub wrote : Answer (List ℕ)
-  pub buffer : List ℕ
+pub record Row : Type 1 where
+  pub Says : Type 0
+  pub said : Answer Says
+  pub Given : ℕ → ℕ → Type 0
+  pub form : Form Says
+  pub Lends : List ℕ → Type 0  -- what the other slice holds that the question is asked with, if it has one
+  pub after : List ℕ  -- what a lent buffer holds afterwards; nothing where none is lent
 
--- all three follow from what is to be written
-abbrev pub left-by : List ℕ → ℕ → Answer (List ℕ) → Leaves
-left-by buffer place list =
-    record { answer = written-of list; wrote = list; buffer = buffer-after buffer place list }
+abbrev of-table : {A : Type 0} → Answer A → (ℕ → ℕ → Type 0) → Form A → Row
+of-table {A} said Given form =
+    record { Says = A; said = said; Given = Given; form = form; Lends = λ other. Unit {0}; after = [] }
 
--- the answers that a question may get
-abbrev pub Said : Question → Type 0
-Said (demand-of task t) = Answer ℕ
-Said verdict-on = Answer Verdict
-Said (replay-with list) = Answer Replayed
-Said (overload-into buffer place) = Leaves
-Said (response-to task frame) = Answer Response
-Said (first-values many task frame) = List ℕ
+abbrev of-list : {A : Type 0} → List ℕ → List ℕ → Answer A → Form A → Row
+of-list {A} s bytes said form =
+    record { Says = A; said = said; Given = List-given s bytes; form = form; Lends = λ other. other ≡ bytes; after = [] }
 
--- the first values of the recurrence for a frame
-abbrev pub values : List ℕ → ℕ → ℕ → ℕ → List ℕ
-values s many k i = tabulate many (value (higher-share (table-of s) k) (table-of s .task k .E i))
-
--- what the rules say
-abbrev pub said : List ℕ → (q : Question) → Said q
-said s (demand-of task t) = demand-asked s task t
-said s verdict-on = verdict-asked s
-said s (replay-with list) = replay-asked s list
-said s (overload-into buffer place) = left-by buffer place (overload-asked s buffer place)
-said s (response-to task frame) = response-asked s task frame
-said s (first-values many task frame) = values s many task frame
-
-pub record Row : Type 0 where
-  pub bytes : List ℕ
-  pub question : Question
-  pub says : Said question
-
--- and that is what the rules say
-abbrev pub Is-said : Row → Type 0
-Is-said row = said (row .bytes) (row .question) ≡ row .says
+abbrev pub row : List ℕ → Question → Row
+row s read = of-table (read-asked s) (Given s table-only) shape-form
+row s (demand task t) = of-table (demand-asked s task t) (Given s (task-order task t)) amount-form
+row s (work task w) = of-table (work-asked s task w) (Given s (task-order task w)) amount-form
+row s (margin t) = of-table (margin-asked s t) (Given s (time-order t)) margin-form
+row s window = of-table (window-asked s) (Given s table-only) window-form
+row s verdict = of-table (verdict-asked s) (Given s table-only) verdict-form
+row s (response task frame) = of-table (response-asked s task frame) (Given s (frame-order task frame)) response-form
+row s overload-size = of-table (size-asked s) (Given s size-order) size-form
+row s (overload buffer place) =
+    record {
+      Says = List ℕ;
+      said = overload-asked s buffer place;
+      Given = Given s (writing-order buffer place);
+      form = written-form;
+      Lends = λ other. other ≡ buffer;
+      after = buffer-after buffer place (overload-asked s buffer place);
+    }
+row s (list bytes) = of-list s bytes (list-asked s bytes) listed-form
+row s (load bytes) = of-list s bytes (load-asked s bytes) loading-form
+row s (replay bytes) = of-list s bytes (replay-asked s bytes) ending-form

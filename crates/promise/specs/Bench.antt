@@ -6,6 +6,7 @@ use Prim.Native.Nat.{ℕ, suc, _≤_}
 use Rattle.model.specs.Jobs.{jobs-of}
 use Rattle.model.specs.Replay.{last-tick}
 use Rattle.model.specs.Answer.{answered}
+use Rattle.table.specs.Bytes.{records}
 use Rattle.table.specs.TableOf.{table-of}
 use Rattle.requests.specs.Entry.{list-of}
 use Rattle.bench.specs.declared.state.Bench.{Bench}
@@ -14,7 +15,7 @@ use Rattle.bench.specs.Rule.{tick-of, run-of}
 use Rattle.bench.specs.Ticked.{left-in, Going, Ticked, Spends, Kept}
 use Rattle.bench.specs.Loaded.{run-whole}
 use Rattle.bench.specs.Meaning.{Holds, Ended}
-use Rattle.desk.specs.Questions.{load-asked}
+use Rattle.desk.specs.ListQuestions.{load-asked}
 
 -- any state, also one that no load gives
 pub record Ticks-rightly (b : Bench) : Type 0 where
@@ -28,7 +29,7 @@ pub record Ticks-rightly (b : Bench) : Type 0 where
 -- a bench that is loaded with the list
 pub record Loaded-rightly (s list : List ℕ) : Type 0 where
   pub bench : Bench
-  pub is : load-asked s list ≡ answered bench
+  pub is : load-asked s list ≡ answered (record { records = records list; bench = bench })
   -- after n ticks, of the 131,071 that a run may have, while it runs it holds what the machine has left
   pub holds : (n : ℕ) → n ≤ suc last-tick → run-of n bench .outcome ≡ Running
       → Holds (jobs-of (table-of s) (list-of list)) n (run-of n bench)

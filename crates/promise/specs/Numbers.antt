@@ -1,5 +1,5 @@
 -- The user's second demand, "The numbers are those the published models define": what each question is answered where
--- nothing is refused, by document 01's definitions. That the answers are settled in every part is OneAnswer; the named
+-- nothing is refused, by document 01's definitions. That the answers are settled in every part is Every; the named
 -- numbers are Named.
 -- Assumes nothing.
 use mathlib.Core.Path.{_≡_}
@@ -22,8 +22,8 @@ use Rattle.table.specs.TableOf.{table-of}
 use Rattle.requests.specs.Entry.{list-of}
 use Rattle.requests.specs.Accepted.{Accepted}
 use Rattle.response.specs.Deadlines.{Within-P}
-use Rattle.desk.specs.Questions.{demand-asked, work-asked, margin-asked, window-asked, verdict-asked, list-asked, replay-asked}
-use Rattle.desk.specs.Response.{response-asked}
+use Rattle.desk.specs.Questions.{read-asked, demand-asked, work-asked, margin-asked, window-asked, verdict-asked, response-asked}
+use Rattle.desk.specs.ListQuestions.{list-asked, replay-asked}
 use Rattle.promise.specs.Bench.{Loaded-rightly}
 
 -- the bench's answer, which says of the machine what document 01 says
@@ -34,6 +34,7 @@ pub record Replayed-rightly (s list : List ℕ) : Type 0 where
 
 -- of bytes that are a table
 pub record Numbers (s : List ℕ) : Type 0 where
+  pub reads : read-asked s ≡ answered (record { records = records s; tasks = table-of s .tasks })
   pub demands : (k t : ℕ) → k < table-of s .tasks → t ≤ horizon
       → demand-asked s k t ≡ answered (demand (table-of s .task k) t)
   pub works : (k w : ℕ) → k < table-of s .tasks → w ≤ horizon

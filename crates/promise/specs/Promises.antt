@@ -1,5 +1,5 @@
 -- The user's third demand: what *passed*, *overloaded* and *undecided* promise of the bytes that were judged so. The
--- first demand stands in Refusals, the second in Numbers and OneAnswer; Demands puts the three together.
+-- first demand stands in Given and Every, the second in Numbers; Demands puts the three together.
 -- Assumes nothing.
 use mathlib.Core.Path.{_≡_}
 use mathlib.Core.List.{List}
@@ -20,10 +20,10 @@ use Rattle.model.specs.Answer.{answered}
 use Rattle.table.specs.TableOf.{table-of}
 use Rattle.requests.specs.Entry.{list-of}
 use Rattle.requests.specs.Accepted.{Lawful, Accepted}
-use Rattle.overload.specs.declared.write.Written.the-variants.{Bytes}
-use Rattle.overload.specs.Place.{Wrote}
-use Rattle.desk.specs.Questions.{verdict-asked, replay-asked}
-use Rattle.desk.specs.Overload.{overload-asked}
+use Rattle.desk.specs.declared.answers.Written.{Written}
+use Rattle.desk.specs.Questions.{verdict-asked, size-asked, overload-asked}
+use Rattle.desk.specs.ListQuestions.{replay-asked}
+use Rattle.desk.specs.FlatList.{Flat-wrote}
 
 -- ---- passed: "in every legal request list of any length the earliest-deadline machine finishes each request within
 -- its deadline"
@@ -68,11 +68,13 @@ No-schedule table list = (schedule : Schedule) → Unfinished (jobs-of table lis
 -- of bytes that are overloaded at t
 pub record Overload-shown (s : List ℕ) (t : ℕ) : Type 0 where
   pub list : List ℕ
+  pub size : size-asked s ≡ answered (length list)
   -- these bytes are what the writer writes wherever there is room, and what a caller reads back where it has written
   pub written : (buffer : List ℕ) (place : ℕ) → place + length list ≤ length buffer
       → overload-asked s buffer place ≡ answered list
-  pub read-back : (buffer : List ℕ) (place n : ℕ) (after : List ℕ)
-      → Wrote buffer place (overload-asked s buffer place) (Bytes n) after → take n (drop place after) ≡ list
+  pub read-back : (buffer : List ℕ) (place : ℕ) (r : Written) (after : List ℕ)
+      → Flat-wrote buffer place (overload-asked s buffer place) r after → r .refusal .number ≡ 0
+      → take (r .bytes) (drop place after) ≡ list
   -- "For each task, from its start frame, the earliest arrivals, up to and including the last request whose deadline is
   -- at most t .. Sorted by arrival, then task number"
   pub woven : Woven (table-of s) (overload-runs (table-of s) t) (list-of list)

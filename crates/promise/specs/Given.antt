@@ -1,0 +1,65 @@
+-- Which refusal the document gives a question, said of the bytes and numbers alone, in the order of document 01, "When
+-- the desk says no"; and what it is that a question gets it exactly then.
+-- Assumes nothing.
+use Prim.Native.Nat.{ℕ, _≤_}
+use mathlib.Core.Path.{_≡_}
+use mathlib.Core.Logic.{_⊎_}
+use mathlib.Core.List.{List}
+use Rattle.laws.specs.Ladder.{Breaks}
+use Rattle.model.specs.Answer.{Answer, answered, refused}
+use Rattle.table.specs.TableOf.{table-of}
+use Rattle.table.specs.WellFormed.{WellFormed}
+use Rattle.table.specs.Refusals as Table
+use Rattle.requests.specs.Accepted.{Accepted}
+use Rattle.requests.specs.Refusals as Requests
+use Rattle.desk.specs.Orders.{Order}
+
+-- ---- of a table: "Tables are tested first", then the question's own order
+
+-- the bytes are a table, and the first rule of the order that they break gives this refusal
+pub record Own (s : List ℕ) (order : Order) (number index : ℕ) : Type 0 where
+  pub table-good : WellFormed s
+  pub breaks : Breaks order s number index
+
+abbrev pub Given : List ℕ → Order → ℕ → ℕ → Type 0
+Given s order number index = Table.Refused-with s number index ⊎ Own s order number index
+
+-- ---- of a table with a request list
+
+-- the bytes are a table, and the others a list of it
+pub record Both-good (s list : List ℕ) : Type 0 where
+  pub table-good : WellFormed s
+  pub list-good : Accepted (table-of s) list
+
+-- the table is good, and the list gets this refusal
+pub record List-bad (s list : List ℕ) (number index : ℕ) : Type 0 where
+  pub table-good : WellFormed s
+  pub list-bad : Requests.Refused-with (table-of s) list number index
+
+abbrev pub List-given : List ℕ → List ℕ → ℕ → ℕ → Type 0
+List-given s list number index = Table.Refused-with s number index ⊎ List-bad s list number index
+
+-- ---- exactly
+
+-- the question is answered, and with this
+pub record Answered {A : Type 0} (said : Answer A) : Type 0 where
+  pub value : A
+  pub is : said ≡ answered value
+
+-- "Given exactly when": refused where the document gives a refusal, with that number and index, only there, and
+-- answered where it gives none
+pub record Exactly {A : Type 0} (Given : ℕ → ℕ → Type 0) (said : Answer A) : Type 0 where
+  pub refuses : (number index : ℕ) → Given number index → said ≡ refused number index
+  pub only : (number index : ℕ) → said ≡ refused number index → Given number index
+  pub answers : ((number index : ℕ) → Given number index → ⊥) → Answered said
+
+-- ---- the numbers
+
+-- the last number of the document's table
+abbrev pub last-refusal : ℕ
+last-refusal = 13
+
+-- a number of the table. It is not 0, which an answer has where nothing was refused: a caller may test it for that
+pub record Numbers-one (number : ℕ) : Type 0 where
+  pub from : 1 ≤ number
+  pub to : number ≤ last-refusal

@@ -13,7 +13,7 @@ use Rattle.bench.specs.declared.state.Bench.{Bench}
 use Rattle.bench.specs.declared.state.Outcome.{Outcome}
 use Rattle.bench.specs.declared.state.Outcome.the-variants.{Running, Missed, AllMet}
 use Rattle.bench.specs.Rule.{first-late, first-left, next-in, less-one, moved-on, tick-of}
-use Rattle.bench.specs.Ticked.{left-in, Going, Misses, None-late, Some-left, Ticked, stays, stops, meets, moves, Spends, Kept}
+use Rattle.bench.specs.Ticked.{left-in, Going, None-late, Some-left, Ticked, stays, stops, meets, moves, Spends, Kept}
 use Rattle.bench.proofs.TickLaws.{missed-stopped, met-stopped, tick-stopped, tick-past, tick-missed, tick-met, tick-moves}
 use Rattle.bench.proofs.SlotLaws.{first-late-at, first-late-none, first-left-at, first-left-none, next-unit, less-one-at}
 
@@ -70,12 +70,6 @@ spends b next (stops i going misses) k changed = absurd (changed refl)
 spends b next (meets going none done) k changed = absurd (changed refl)
 spends b next (moves going none some unit) k changed = unit-changed unit k changed
 
-names : (b next : Bench) → Ticked b next → b .outcome ≡ Running → (i : ℕ) → next .outcome ≡ Missed i → Misses b i
-names b next (stays over) running i missed = absurd (missed-stopped missed running)
-names b next (stops j going misses) running i missed = let same : j ≡ i = cc in rw same at misses
-names b next (meets going none done) running i missed = let z : _≡_ {A = ℕ} 0 1 = cc in absurd (omega arith)
-names b next (moves going none some unit) running i missed = absurd (missed-stopped missed running)
-
 module _ (b : Bench) where
   -- "A stopped bench .. comes back from a tick unchanged, and so does a state past that last tick."
   pub tick-stands : (Going b → ⊥) → tick-of b ≡ b
@@ -87,7 +81,3 @@ module _ (b : Bench) where
   -- a slot whose amount changed got the one unit of the tick, and had the right to it
   pub tick-spends : (k : ℕ) → (left-in (tick-of b) k ≡ left-in b k → ⊥) → Spends b (tick-of b) k
   tick-spends = spends b (tick-of b) (tick-right b)
-
-  -- "the bench stops and names the one with the lowest record index"
-  pub tick-names : b .outcome ≡ Running → (i : ℕ) → tick-of b .outcome ≡ Missed i → Misses b i
-  tick-names = names b (tick-of b) (tick-right b)

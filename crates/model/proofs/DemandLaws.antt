@@ -9,7 +9,7 @@ use native.Mathlib.Omega.{arith}
 use lib.Dec.{leb, ltb}
 use Rattle.laws.specs.Sums.{sum, only, greatest}
 use Rattle.laws.proofs.Cases.{lt-or-le}
-use Rattle.laws.proofs.SumLaws.{gate, sum-cong, sum-mono, sum-longer, greatest-ge, greatest-le, greatest-mono, greatest-cong}
+use Rattle.laws.proofs.SumLaws.{gate, sum-cong, sum-mono, sum-longer, greatest-ge, greatest-le, greatest-cong}
 use Rattle.model.specs.Task.{Task, Proper}
 use Rattle.model.specs.Demand.{frame, offset, part, counted, most, work}
 use Rattle.model.proofs.CyclicLaws.{Moves, frame-lt, counted-zero, counted-on}
@@ -62,10 +62,6 @@ counted-mono task reach t u s h =
           | inl out ↦ omega (arith, gate due t e .shut out)
           | inr fits ↦ omega (arith, gate due t e .most, gate due u e .passes (omega arith))
         ]
-
-pub most-mono : (task : Task) (reach : ℕ → ℕ) (t u : ℕ) → t ≤ u → most task reach t ≤ most task reach u
-most-mono task reach t u h =
-    greatest-mono (task .count) (counted task reach t) (counted task reach u) (λ s l. counted-mono task reach t u s h)
 
 module _ {task : Task} {reach : ℕ → ℕ} (moves : Moves task reach) where
   next-lt : (s : ℕ) → frame task s 1 < task .count

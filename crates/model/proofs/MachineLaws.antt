@@ -11,9 +11,8 @@ use Rattle.laws.specs.Search.{Found, at, nowhere}
 use Rattle.laws.proofs.Falling.{falling-mono}
 use Rattle.laws.proofs.Every.{and-true-left, and-true-right}
 use Rattle.model.specs.Jobs.{Jobs}
-use Rattle.model.specs.Machine.{Order, Strict, sooner, ready, chosen, give, left-at}
+use Rattle.model.specs.Machine.{Order, Strict, ready, chosen, give, left-at}
 use Rattle.model.specs.Tick.{Pending, Gives, One-unit, idle, gives}
-use Rattle.model.proofs.OrderLaws.{not-sooner-due}
 use Rattle.model.proofs.PickRight.{Picked, pick-right}
 
 -- ---- any amounts left
@@ -87,18 +86,6 @@ unit-changed (gives b given) k changed =
     elim (ℕ-discrete k b)
     [ yes same ↦ rw (sym same) at given | no differ ↦ absurd (changed (given .others k differ)) ]
 
--- so no two jobs get a unit
-pub gives-one : {jobs : Jobs} {before : Order} {t : ℕ} {left next : ℕ → ℕ} {i j : ℕ}
-    → Gives jobs before t left next i → Gives jobs before t left next j → i ≡ j
-gives-one {i = i} {j = j} one other =
-    elim (ℕ-discrete i j)
-    [ yes same ↦ same | no differ ↦ absurd (omega (arith, one .one-less, other .others i differ)) ]
-
--- "the earliest deadline": by the document's order, what gets the unit is due no later than any that waits
-pub gives-earliest : (jobs : Jobs) {t : ℕ} {left next : ℕ → ℕ} {k : ℕ} → Gives jobs (sooner jobs) t left next k
-    → (j : ℕ) → Pending jobs t left j → jobs .due k ≤ jobs .due j
-gives-earliest jobs {k = k} given j waits = not-sooner-due jobs j k (given .none-before j waits)
-
 -- ---- the machine from the jobs' amounts on
 
 module _ (jobs : Jobs) (before : Order) where
@@ -110,12 +97,6 @@ module _ (jobs : Jobs) (before : Order) where
       ≡ give (chosen jobs before t (left-at jobs before t)) (left-at jobs before t) k
   unfolding left-at
   left-step t k = refl
-
-  -- each tick of it
-  pub left-unit : Strict before → (t : ℕ)
-      → One-unit jobs before t (left-at jobs before t) (left-at jobs before (suc t))
-  unfolding left-at
-  left-unit strict t = one-unit jobs before t (left-at jobs before t) strict
 
   left-falls : (t k : ℕ) → left-at jobs before (suc t) k ≤ left-at jobs before t k
   left-falls t k =

@@ -1,15 +1,12 @@
--- What a replay may answer is one answer only, and *all met* comes right after the last unit.
+-- What a replay may answer is one answer only.
 -- Assumes nothing.
 use mathlib.Core.Path.{_≡_, sym, ap}
-use Prim.Native.Nat.{ℕ, suc, _<_}
+use Prim.Native.Nat.{ℕ, _<_}
 use native.Mathlib.Omega.{arith}
-use native.Mathlib.Nat.{le-refl}
 use Rattle.laws.proofs.Cases.{neither-lower}
 use Rattle.model.specs.Jobs.{Jobs}
-use Rattle.model.specs.Machine.{Order, Strict, left-at}
-use Rattle.model.specs.Tick.{Gives}
+use Rattle.model.specs.Machine.{Order}
 use Rattle.model.specs.Replay.{Replayed, missed, all-met, Missed, Met, Says}
-use Rattle.model.proofs.MachineLaws.{left-unit, unit-changed}
 
 module _ (jobs : Jobs) (before : Order) where
   -- the first miss is at one tick, and at that tick one job is the lowest
@@ -38,11 +35,3 @@ module _ (jobs : Jobs) (before : Order) where
   says-one (all-met t) (missed u j) met miss = absurd (met .on-time u j (miss .misses .late))
   says-one (all-met t) (all-met u) one other =
       ap all-met (neither-lower t u (not-earlier t u one other) (not-earlier u t other one))
-
-  -- "the tick after the last unit": the tick before it gave one, to a job that was not done
-  pub met-last : Strict before → (t : ℕ) (met : Met jobs before (suc t))
-      → Gives jobs before t (left-at jobs before t) (left-at jobs before (suc t)) (met .worked t (le-refl (suc t)) .job)
-  met-last strict t met =
-      let undone = met .worked t (le-refl (suc t)) in
-      unit-changed (left-unit jobs before strict t) (undone .job) λ same.
-      omega (arith, undone .undone, met .done (undone .job) (undone .inside))

@@ -3,14 +3,14 @@
 use mathlib.Core.Bool.{true, false}
 use mathlib.Core.Path.{_≡_, refl, sym, _∙_, ap}
 use mathlib.Core.Logic.{inl, inr}
-use Prim.Native.Nat.{ℕ, zero, suc, _+_, _-_, _≤_, _<_}
+use Prim.Native.Nat.{ℕ, zero, suc, _-_, _≤_, _<_}
 use native.Mathlib.Omega.{arith}
 use Rattle.laws.specs.Search.{Found, at, nowhere, least-from, place-or}
 use Rattle.laws.proofs.Cases.{lt-or-le}
 use Rattle.laws.proofs.SearchLaws.{Least, Right, least-right, least-is}
 use Rattle.model.specs.Response.{value, Response, on-time, late, settles, settled-at, response-by}
 use Rattle.model.specs.ResponseMeaning.{Never-falls, Rises-to, On-time, Late, Says}
-use Rattle.model.proofs.ValueLaws.{value-next, value-grows, value-mono, value-stays, value-climbs, value-least}
+use Rattle.model.proofs.ValueLaws.{value-grows, value-mono, value-stays, value-climbs}
 use Rattle.model.proofs.SettleLaws.{settles-past, settles-again, settles-not, repeats-within, goes-within, goes-up, settled-late, settled-on-time, response-at}
 
 -- ---- what the response says
@@ -104,17 +104,6 @@ module _ (share : ℕ → ℕ) (e d : ℕ) where
       ∙ sym (found-at n (omega (arith, t .few)) (settles-again share e d n again)
       (λ m less. omega (arith, t .first m less, t .within)) (t .rises)
       ∙ settled-on-time share e d n within)
-
--- ---- the equation
-
-module _ {share : ℕ → ℕ} {e d v n : ℕ} (t : On-time share e d v n) where
-  -- the response solves x = E + share x
-  pub on-time-solves : e + share v ≡ v
-  on-time-solves = ap (λ (x : ℕ). e + share x) (t .is) ∙ sym (value-next share e n) ∙ t .repeats (suc n) (omega arith)
-
-  -- and no smaller x does
-  pub on-time-least : Never-falls share → (x : ℕ) → e + share x ≡ x → v ≤ x
-  on-time-least falls-never x solves = omega (arith, t .is, value-least falls-never e x (omega arith) n)
 
 -- ---- the document's claims alone: that the values rise follows from them
 

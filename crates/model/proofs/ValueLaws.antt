@@ -1,5 +1,4 @@
--- Laws of the recurrence's values over any share: they never fall, they stay where they repeat, and none of them passes
--- a solution.
+-- Laws of the recurrence's values over any share: they never fall, and they stay where they repeat.
 -- Assumes nothing.
 use mathlib.Core.Path.{_≡_, refl, sym, _∙_, ap}
 use mathlib.Core.Logic.{inl, inr}
@@ -59,10 +58,3 @@ module _ {share : ℕ → ℕ} (falls-never : Never-falls share) where
         | inl less ↦ omega (arith, value-mono e n m (omega arith), value-grows e m)
         | inr last ↦ omega (arith, ap (value share e) last)
       ]
-
-  -- every value is at most any x that has room for the frame and for the share of x. The value that is repeated solves
-  -- x = E + share x, so it is the least solution: the response of 003, equations 3.4 and 3.5
-  pub value-least : (e x : ℕ) → e + share x ≤ x → (n : ℕ) → value share e n ≤ x
-  value-least e x room zero = omega (arith, value-first share e)
-  value-least e x room (suc n) =
-      omega (arith, value-next share e n, falls-never (value share e n) x (value-least e x room n))

@@ -5,7 +5,6 @@ use Rattle.laws.specs.Search.{Found, at, nowhere}
 use Rattle.model.specs.Verdict as Rule
 use Rattle.verdict.specs.declared.window.Closing.{Closing}
 use Rattle.verdict.specs.declared.window.Closing.the-variants.{At, Never}
-use Rattle.verdict.specs.declared.judge.Verdict.{Verdict}
 use Rattle.verdict.specs.declared.judge.Verdict.the-variants.{Overloaded, Fits, Undecided}
 use Rattle.verdict.specs.declared.judge.Judged.{Judged}
 

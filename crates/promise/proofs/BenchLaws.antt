@@ -12,10 +12,10 @@ use Rattle.requests.proofs.AcceptedLaws.{accepted-few}
 use Rattle.bench.specs.declared.state.Bench.{Bench}
 use Rattle.bench.proofs.OneUnit.{tick-right, tick-stands, tick-keeps, tick-spends}
 use Rattle.bench.proofs.MachineRun.{run-holds}
-use Rattle.desk.specs.Questions.{loads, load-asked}
-use Rattle.desk.specs.Refusals.{Both-good}
-use Rattle.desk.proofs.ListExact.{good-answered, load-ends}
+use Rattle.desk.specs.ListQuestions.{loads, load-asked}
+use Rattle.promise.specs.Given.{Both-good}
 use Rattle.promise.specs.Bench.{Ticks-rightly, Loaded-rightly}
+use Rattle.promise.proofs.ListExact.{good-answered, load-ends}
 
 pub ticks-rightly : (b : Bench) → Ticks-rightly b
 ticks-rightly b =
@@ -27,7 +27,7 @@ unfolding load-asked
 loaded-rightly s bytes well list accepted =
     let good : Both-good s list = record { table-good = well; list-good = accepted } in
     record {
-      bench = loads (table-of s) (list-of list);
+      bench = loads (table-of s) (list-of list) .bench;
       is = good-answered loads s list good;
       holds = run-holds (jobs-of (table-of s) (list-of list)) (accepted-few accepted);
       ends = load-ends s bytes list good;

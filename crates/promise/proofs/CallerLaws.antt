@@ -1,140 +1,189 @@
--- What a caller of the code may rely on: its answer is read back as what document 01 says, and of that the promises
+-- What a caller of the code may rely on: its flat answer is what document 01 says, laid flat, and of that the promises
 -- are made.
 -- Assumes nothing.
 use mathlib.Core.Path.{_≡_, refl, sym, ap, subst, _∙_}
+use mathlib.Core.Bool.{Bool, true, false}
 use mathlib.Core.List.{List}
-use Prim.Native.Nat.{ℕ}
+use Prim.Native.Nat.{ℕ, _≤_}
 use native.Mathlib.Omega.{arith}
 use denote.Ref.{now}
-use lib.IntN.{ℤ}
 use lib.ListN.{take, drop}
 use Rattle.model.specs.Verdict as Rule
+use Rattle.model.specs.Verdict.{horizon}
+use Rattle.model.specs.Meaning.{Undecided}
 use Rattle.model.specs.Request.{Legal}
 use Rattle.model.specs.Replay.{Replayed, missed, all-met}
 use Rattle.model.specs.Answer.{Answer, answered, refused}
 use Rattle.table.specs.Bytes.{Bytes}
 use Rattle.table.specs.TableOf.{table-of}
-use Rattle.verdict.specs.declared.judge.Verdict.the-variants.{Overloaded, Fits, Undecided}
+use Rattle.table.specs.Refusals as Table
 use Rattle.requests.specs.Entry.{list-of}
 use Rattle.requests.specs.Accepted.{Accepted}
-use Rattle.overload.specs.declared.write.Written.the-variants as written
-use Rattle.bench.specs.declared.replay.Replayed.the-variants.{Missed, AllMet}
-use Rattle.desk.specs.declared.Judged.{Judged}
-use Rattle.desk.specs.declared.Judgement.{Judgement}
-use Rattle.desk.specs.declared.Judgement.the-variants as judgement
-use Rattle.desk.specs.declared.Ending.{Ending}
-use Rattle.desk.specs.declared.Ending.the-variants as ending
-use Rattle.desk.specs.Questions.{replays, verdict-asked, replay-asked}
-use Rattle.desk.specs.Written.{judgement-of, ending-of}
-use Rattle.desk.specs.Refusals.{Told}
-use Rattle.desk.proofs.ListExact.{list-told}
-use Rattle.desk.proofs.WritingExact.{over-judged}
-use Rattle.desk.proofs.WritingLeft.{wrote-leaves}
-use Rattle.promise.specs.Promises.{No-schedule, Overload-shown}
-use Rattle.promise.specs.Callers.{Slice, Judges, Writes, Replays, Callers}
+use Rattle.desk.specs.declared.answers.Verdict.{Verdict}
+use Rattle.desk.specs.declared.answers.Written.{Written}
+use Rattle.desk.specs.declared.answers.Ending.{Ending}
+use Rattle.desk.specs.Questions.{verdict-asked}
+use Rattle.desk.specs.ListQuestions.{replays, replay-asked}
+use Rattle.desk.specs.FlatVerdict.{flat-verdict}
+use Rattle.desk.specs.FlatList.{flat-ending}
+use mathlib.Core.Logic.{inl, inr}
+use Rattle.promise.specs.Asked as Ask
+use Rattle.promise.specs.Contracts.{Slice}
+use Rattle.promise.specs.Promises.{Passed, No-schedule, Overload-shown}
+use Rattle.promise.specs.Callers.{Judges, Writes-into, Replays, Callers}
+use Rattle.promise.proofs.EveryLaws.{every-question}
 use Rattle.promise.proofs.JudgedLaws.{judged-means}
-use Rattle.promise.proofs.RefusalLaws.{exact-refusals}
+use Rattle.promise.proofs.ListExact.{answered-good}
 use Rattle.promise.proofs.PassedLaws.{passed}
 use Rattle.promise.proofs.OverloadedLaws.{overloaded-shown}
+use Rattle.promise.proofs.WritingExact.{over-judged}
+use Rattle.promise.proofs.WrittenBack.{wrote-list, wrote-none}
 
--- ---- the code's values read back
+-- ---- the verdict by its number
 
-abbrev read-judgement : Judgement → List ℕ → Answer Rule.Verdict
-read-judgement (judgement.Is (Overloaded t m)) starts = answered (Rule.overloaded t m starts)
-read-judgement (judgement.Is (Fits window m t)) starts = answered (Rule.fits window m t)
-read-judgement (judgement.Is Undecided) starts = answered Rule.undecided
-read-judgement (judgement.Refused y) starts = refused (y .number) (y .index)
+module _ (s : List ℕ) (bytes : Bytes s) where
+  is-overload : (said : Answer Rule.Verdict) → verdict-asked s ≡ said → flat-verdict said .verdict ≡ 1
+      → Overload-shown s (flat-verdict said .t)
+  unfolding flat-verdict
+  is-overload (answered (Rule.overloaded t m starts)) is one = overloaded-shown s bytes is
+  is-overload (answered (Rule.fits w m t)) is one = absurd (omega arith)
+  is-overload (answered Rule.undecided) is one = absurd (omega arith)
+  is-overload (refused number index) is one = absurd (omega arith)
 
-judgement-read : (a : Answer Rule.Verdict) → read-judgement (judgement-of a .judgement) (judgement-of a .starts) ≡ a
-judgement-read (answered (Rule.overloaded t m starts)) = refl
-judgement-read (answered (Rule.fits window m t)) = refl
-judgement-read (answered Rule.undecided) = refl
-judgement-read (refused number index) = refl
+  is-fit : (said : Answer Rule.Verdict) → verdict-asked s ≡ said → flat-verdict said .verdict ≡ 2 → Passed s
+  unfolding flat-verdict
+  is-fit (answered (Rule.overloaded t m starts)) is two = absurd (omega arith)
+  is-fit (answered (Rule.fits w m t)) is two = passed s bytes is
+  is-fit (answered Rule.undecided) is two = absurd (omega arith)
+  is-fit (refused number index) is two = absurd (omega arith)
 
-abbrev read-ending : Ending → Answer Replayed
-read-ending (ending.Is (Missed tick index)) = answered (missed tick index)
-read-ending (ending.Is (AllMet tick)) = answered (all-met tick)
-read-ending (ending.Refused y) = refused (y .number) (y .index)
+  is-open : (said : Answer Rule.Verdict) → verdict-asked s ≡ said → flat-verdict said .verdict ≡ 3
+      → Undecided horizon (table-of s)
+  unfolding flat-verdict
+  is-open (answered (Rule.overloaded t m starts)) is three = absurd (omega arith)
+  is-open (answered (Rule.fits w m t)) is three = absurd (omega arith)
+  is-open (answered Rule.undecided) is three = judged-means s bytes is
+  is-open (refused number index) is three = absurd (omega arith)
 
-ending-read : (a : Answer Replayed) → read-ending (ending-of a) ≡ a
-ending-read (answered (missed tick index)) = refl
-ending-read (answered (all-met tick)) = refl
-ending-read (refused number index) = refl
+  is-refusal : (said : Answer Rule.Verdict) → verdict-asked s ≡ said → flat-verdict said .verdict ≡ 0
+      → let no = flat-verdict said .refusal in Table.Refused-with s (no .number) (no .index)
+  unfolding flat-verdict
+  is-refusal (answered (Rule.overloaded t m starts)) is none = absurd (omega arith)
+  is-refusal (answered (Rule.fits w m t)) is none = absurd (omega arith)
+  is-refusal (answered Rule.undecided) is none = absurd (omega arith)
+  is-refusal (refused number index) is none =
+      elim (every-question s bytes Ask.verdict .exact .only number index is) [
+        | inl bad ↦ bad
+        | inr own ↦ absurd (own .breaks)
+      ]
 
--- ---- what was asked
+four : (said : Answer Rule.Verdict) → flat-verdict said .verdict ≤ 3
+unfolding flat-verdict
+four (answered (Rule.overloaded t m starts)) = omega arith
+four (answered (Rule.fits w m t)) = omega arith
+four (answered Rule.undecided) = omega arith
+four (refused number index) = omega arith
 
-module _ (s : Slice) where
-  judges-asked : (r : Judged) {j : Judgement} → Judges s r → r .judgement ≡ j
-      → verdict-asked (now s) ≡ read-judgement j (r .starts)
-  judges-asked r (κs, x, told) is =
-      sym (judgement-read (verdict-asked (now s)))
-      ∙ ap (λ (q : Judged). read-judgement (q .judgement) (q .starts)) (sym told)
-      ∙ ap (λ (q : Judgement). read-judgement q (r .starts)) is
+-- ---- a replay by its fields
 
-  replays-asked : (list : Slice) {r e : Ending} → Replays s list r → r ≡ e
-      → replay-asked (now s) (now list) ≡ read-ending e
-  replays-asked list (κs, x, told) is =
-      sym (ending-read (replay-asked (now s) (now list))) ∙ ap read-ending (sym told ∙ is)
+-- of a refused replay no miss is said
+not-missed : (said : Answer Replayed) → ((tick index : ℕ) → said ≡ answered (missed tick index) → ⊥)
+    → flat-ending said .missed ≡ false
+unfolding flat-ending
+not-missed (answered (missed tick index)) never = absurd (never tick index refl)
+not-missed (answered (all-met tick)) never = refl
+not-missed (refused number index) never = refl
 
-  module _ (bytes : Bytes (now s)) where
-    -- the list that was written is that of the overload
-    shown : (buffer : Slice) (place n : ℕ) (after : List ℕ) → Writes s buffer place (written.Bytes n) after
-        → (t : ℕ) × (over : Overload-shown (now s) t) × (take n (drop place after) ≡ over .list)
-    shown buffer place n after (κs, x, told, is) =
-        let at-t = wrote-leaves (now s) (now buffer) place bytes told .writes .overloaded in
-        let over = overloaded-shown (now s) bytes (over-judged (now s) bytes at-t) in (
+-- one that is neither refused nor met is missed
+is-missed : (said : Answer Replayed) → ((number index : ℕ) → said ≡ refused number index → 1 ≤ number)
+    → ((tick : ℕ) → said ≡ answered (all-met tick) → ⊥) → flat-ending said .refusal .number ≡ 0
+    → flat-ending said .missed ≡ true
+unfolding flat-ending
+is-missed (answered (missed tick index)) from never accepted = refl
+is-missed (answered (all-met tick)) from never accepted = absurd (never tick refl)
+is-missed (refused number index) from never accepted = let some = from number index refl in absurd (omega arith)
+
+module _ (s : Slice) (bytes : Bytes (now s)) where
+  -- a list that is replayed was accepted
+  replayed-good : (list : List ℕ) {r : Replayed} → replay-asked (now s) list ≡ answered r
+      → Accepted (table-of (now s)) list
+  unfolding replay-asked
+  replayed-good list is = answered-good replays (now s) list is .list-good
+
+  never-missed : Passed (now s) → (list : Slice) (e : Ending) → Replays s list e → e .missed ≡ false
+  never-missed fit list e (κ, ℓ, after, (x, is, none)) =
+      ap (λ (q : Ending). q .missed) is
+      ∙ not-missed (replay-asked (now s) (now list))
+      (λ tick index asked.
+      let met = fit .replays (now list) (replayed-good (now list) asked) in
+      let apart : _≡_ {A = ℕ} 0 1 = cc (asked, met .is) in absurd (omega arith))
+
+  -- ---- what was written
+
+  module _ (buffer : Slice) (place : ℕ) (r : Written) (after : List ℕ) (w : Writes-into s buffer place r after)
+      (none : r .refusal .number ≡ 0) where
+    abbrev bytes-read : List ℕ
+    bytes-read = take (r .bytes) (drop place after)
+
+    shown : (t : ℕ) × (over : Overload-shown (now s) t) × (bytes-read ≡ over .list)
+    shown =
+        let (κ, ℓ, (x, wrote, left)) = w in
+        let back = wrote-list (now s) bytes (now buffer) place wrote none in
+        let writes = back .writes in
+        let over =
+        overloaded-shown (now s) bytes (over-judged (now s) bytes (writes .table-good) (writes .overloaded)) in (
           _,
           over,
-          subst (λ (l : List ℕ). take n (drop place l) ≡ over .list) is
-              (over .read-back (now buffer) place n (now (x .1 .0)) told),
+          rw left (over .read-back (now buffer) place r (now (x .1 .0)) wrote none),
         )
 
-    wrote : (buffer : Slice) (place n : ℕ) (after : List ℕ) → Writes s buffer place (written.Bytes n) after
-        → let list = list-of (take n (drop place after)) in
+    wrote : let list = list-of bytes-read in
         Legal (table-of (now s)) list × No-schedule (table-of (now s)) list
-    wrote buffer place n after writes =
-        let (t, over, is) = shown buffer place n after writes in (
+    wrote =
+        let (t, over, is) = shown in (
           subst (λ (l : List ℕ). Legal (table-of (now s)) (list-of l)) (sym is) (over .legal),
           subst (λ (l : List ℕ). No-schedule (table-of (now s)) (list-of l)) (sym is) (over .no-schedule),
         )
 
-    -- a list that is replayed was accepted
-    replayed-good : (list : Slice) {r : Replayed} → replay-asked (now s) (now list) ≡ answered r
-        → Accepted (table-of (now s)) (now list)
-    unfolding replay-asked
-    replayed-good list is = subst (Told (now s) (now list)) is (list-told replays (now s) (now list)) .list-good
-
-    never-missed : (r : Judged) → Judges s r → (window t : ℕ) (m : ℤ) → r .judgement ≡ judgement.Is (Fits window m t)
-        → (list : Slice) (e : Ending) → Replays s list e
-        → (tick index : ℕ) → e ≡ ending.Is (Missed tick index) → ⊥
-    never-missed r judges window t m fits list e replay tick index is =
-        let asked = replays-asked list replay is in
-        let met = passed (now s) bytes (judges-asked r judges fits) .replays (now list) (replayed-good list asked) in
-        let apart : _≡_ {A = ℕ} 0 1 = cc (asked, met .is) in
-        absurd (omega arith)
-
-    never-met : (buffer : Slice) (place n : ℕ) (after : List ℕ) → Writes s buffer place (written.Bytes n) after
-        → (list : Slice) → now list ≡ take n (drop place after)
-        → (e : Ending) → Replays s list e → (tick : ℕ) → e ≡ ending.Is (AllMet tick) → ⊥
-    never-met buffer place n after writes list read e replay tick is =
-        let (t, over, is-list) = shown buffer place n after writes in
-        let asked = replays-asked list replay is in
+    never-met : (list : Slice) → now list ≡ bytes-read → (e : Ending) → Replays s list e
+        → e .refusal .number ≡ 0 → e .missed ≡ true
+    never-met list read e (κ, ℓ, last, (x, is, end)) accepted =
+        let (t, over, is-list) = shown in
         let same = read ∙ is-list in
-        let missed = over .replays (subst (Accepted (table-of (now s))) same (replayed-good list asked)) in
-        let apart : _≡_ {A = ℕ} 0 1 = cc (asked, same, missed .is) in
-        absurd (omega arith)
+        ap (λ (q : Ending). q .missed) is
+        ∙ is-missed (replay-asked (now s) (now list))
+        (λ number index refuses. every-question (now s) bytes (Ask.replay (now list)) .numbered number index refuses .from)
+        (λ tick asked.
+        let accepts = subst (Accepted (table-of (now s))) same (replayed-good (now list) asked) in
+        let apart : _≡_ {A = ℕ} 0 1 = cc (asked, same, over .replays accepts .is) in absurd (omega arith))
+        (ap (λ (q : Ending). q .refusal .number) (sym is) ∙ accepted)
 
-    pub callers : Callers s
-    callers =
-        record {
-          passed = λ r judges window t m is. passed (now s) bytes (judges-asked r judges is);
-          overloaded = λ r judges t m is. overloaded-shown (now s) bytes (judges-asked r judges is);
-          undecided = λ r judges is. judged-means (now s) bytes (judges-asked r judges is);
-          refused = λ r judges y is.
-              exact-refusals (now s) bytes .verdict .only (y .number) (y .index) (judges-asked r judges is);
-          wrote = wrote;
-          left-alone = λ buffer place y after (κs, x, told, is).
-              sym is ∙ wrote-leaves (now s) (now buffer) place bytes told .same;
-          never-missed = never-missed;
-          never-met = never-met;
-        }
+  -- ---- all of it
+
+  -- the answer of the verdict's function is the rules' own, laid flat
+  module _ (P : Verdict → Type 0) where
+    judged-by : (r : Verdict) → Judges s r → P (flat-verdict (verdict-asked (now s))) → P r
+    judged-by r (κ, ℓ, after, (x, is, none)) = subst P (sym is)
+
+  number-is : (n : ℕ) (r : Verdict) → Judges s r → r .verdict ≡ n → flat-verdict (verdict-asked (now s)) .verdict ≡ n
+  number-is n r (κ, ℓ, after, (x, is, none)) same = ap (λ (q : Verdict). q .verdict) (sym is) ∙ same
+
+  pub callers : Callers s
+  callers =
+      let said = verdict-asked (now s) in
+      record {
+        overloaded = λ r j one.
+            judged-by (λ q. Overload-shown (now s) (q .t)) r j
+            (is-overload (now s) bytes said refl (number-is 1 r j one));
+        passed = λ r j two. is-fit (now s) bytes said refl (number-is 2 r j two);
+        undecided = λ r j three. is-open (now s) bytes said refl (number-is 3 r j three);
+        refuses = λ r j none.
+            judged-by (λ q. Table.Refused-with (now s) (q .refusal .number) (q .refusal .index)) r j
+            (is-refusal (now s) bytes said refl (number-is 0 r j none));
+        no-other = λ r j. judged-by (λ q. q .verdict ≤ 3) r j (four said);
+        wrote = wrote;
+        left-alone = λ buffer place r after (κ, ℓ, (x, wrote, left)) some.
+            left ∙ wrote-none (now s) bytes (now buffer) place wrote some;
+        never-missed = λ r j two. never-missed (is-fit (now s) bytes said refl (number-is 2 r j two));
+        never-met = never-met;
+      }

@@ -23,15 +23,14 @@ use Rattle.requests.specs.Entry.{entry-of, bytes-to}
 use Rattle.requests.specs.Reader.{check-of}
 use Rattle.overload.specs.Place.{placed}
 use Rattle.response.specs.Deadlines.{first-above}
-use Rattle.desk.specs.Questions.{demand-asked, verdict-asked, replay-asked}
-use Rattle.desk.specs.Overload.{overload-asked}
-use Rattle.desk.specs.Response.{response-asked}
+use Rattle.desk.specs.Questions.{demand-asked, work-asked, margin-asked, verdict-asked, response-asked, overload-asked}
+use Rattle.desk.specs.ListQuestions.{replay-asked}
 use Rattle.promise.specs.Tables.{A, B, twenty}
-use Rattle.promise.specs.Asked.{Question, demand-of, verdict-on, replay-with, overload-into, response-to, first-values}
-use Rattle.promise.specs.Cases.{Given, Case, Is-given, times, tasks, cases, Cases-given}
+use Rattle.promise.specs.Asked.{Question, row}
+use Rattle.promise.specs.Cases.{Case, Is-given, times, tasks, cases, Cases-given, skips-task, kind-four, seventeenth, zero-E, unlike-first, order-broken, wrong-frame}
 use Rattle.promise.proofs.SameLaws.{same-answer, same-answer-is}
-use Rattle.promise.proofs.RowLaws.{is-byte, right, rows-right}
-use Rattle.promise.proofs.RefusalLaws.{exact-refusals}
+use Rattle.promise.proofs.RowLaws.{is-byte, right, row-right, rows-right}
+use Rattle.promise.proofs.EveryLaws.{every-question}
 
 -- the answer is this refusal
 gets : {A : Type 0} → ℕ → ℕ → Answer A → Bool
@@ -42,37 +41,19 @@ gets-is : {A : Type 0} (number index : ℕ) (said : Answer A) → T (gets number
 unfolding gets
 gets-is number index said = same-answer-is (λ a b. false) (λ a b h. absurd h) said (refused number index)
 
-asked : List ℕ → Question → ℕ → ℕ → Bool
-asked s (demand-of k t) number index = gets number index (demand-asked s k t)
-asked s verdict-on number index = gets number index (verdict-asked s)
-asked s (replay-with list) number index = gets number index (replay-asked s list)
-asked s (overload-into buffer place) number index = gets number index (overload-asked s buffer place)
-asked s (response-to k i) number index = gets number index (response-asked s k i)
-asked s (first-values many k i) number index = false
-
-module _ (s : List ℕ) (bytes : Bytes s) (n i : ℕ) where
-  asked-given : (q : Question) → T (asked s q n i) → Given s q n i
-  unfolding asked
-  asked-given (demand-of k t) h = exact-refusals s bytes .demand k t .only n i (gets-is n i (demand-asked s k t) h)
-  asked-given verdict-on h = exact-refusals s bytes .verdict .only n i (gets-is n i (verdict-asked s) h)
-  asked-given (replay-with list) h =
-      exact-refusals s bytes .replay list .only n i (gets-is n i (replay-asked s list) h)
-  asked-given (overload-into buffer place) h =
-      exact-refusals s bytes .overload buffer place .only n i (gets-is n i (overload-asked s buffer place) h)
-  asked-given (response-to k j) h =
-      exact-refusals s bytes .response k j .only n i (gets-is n i (response-asked s k j) h)
-  asked-given (first-values many k j) h = absurd h
-
 is-refused : Case → Bool
-is-refused c = asked (c .bytes) (c .question) (c .number) (c .index)
+is-refused c = gets (c .number) (c .index) (row (c .bytes) (c .question) .said)
 
 refused-given : (c : Case) → Bytes (c .bytes) → T (is-refused c) → Is-given c
 unfolding is-refused
-refused-given c bytes = asked-given (c .bytes) bytes (c .number) (c .index) (c .question)
+refused-given c bytes h =
+    let said = row (c .bytes) (c .question) .said in
+    every-question (c .bytes) bytes (c .question) .exact .only (c .number) (c .index)
+    (gets-is (c .number) (c .index) said h)
 
 all-right : T (every (right (λ c. c .bytes) is-refused) cases)
-unfolding cases right is-refused asked gets is-byte every same-answer A B twenty times tasks
-    demand-asked verdict-asked response-asked replay-asked overload-asked
+unfolding cases right is-refused gets is-byte every same-answer A B twenty times tasks
+    demand-asked work-asked margin-asked verdict-asked response-asked replay-asked overload-asked
     reading-of read-all read-on record-of records-before records-of task-of
     check-of entry-of last-arrival first-above horizon sum least-from frame
     verdict first-overload overloads overloaded-at all-demands greatest counted offset lowest
@@ -81,3 +62,31 @@ all-right = tt
 
 pub cases-given : Cases-given
 cases-given = rows-right (λ c. c .bytes) is-refused Is-given refused-given cases all-right
+
+-- ---- those that are cited, each by its name
+
+pub record Cited : Type 0 where
+  pub skips : Is-given skips-task
+  pub kind : Is-given kind-four
+  pub room : Is-given seventeenth
+  pub zero : Is-given zero-E
+  pub unlike : Is-given unlike-first
+  pub order : Is-given order-broken
+  pub frame-wrong : Is-given wrong-frame
+
+one-given : (c : Case) → T (right (λ c. c .bytes) is-refused c) → Is-given c
+one-given = row-right (λ c. c .bytes) is-refused Is-given refused-given
+
+pub cited : Cited
+unfolding right is-refused gets is-byte every same-answer A B times verdict-asked replay-asked
+    reading-of read-all read-on record-of records-before records-of task-of check-of entry-of last-arrival sum frame
+cited =
+    record {
+      skips = one-given skips-task tt;
+      kind = one-given kind-four tt;
+      room = one-given seventeenth tt;
+      zero = one-given zero-E tt;
+      unlike = one-given unlike-first tt;
+      order = one-given order-broken tt;
+      frame-wrong = one-given wrong-frame tt;
+    }

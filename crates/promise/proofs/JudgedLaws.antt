@@ -12,8 +12,8 @@ use Rattle.table.specs.TableOf.{table-of}
 use Rattle.table.specs.WellFormed.{WellFormed}
 use Rattle.table.proofs.TaskLaws.{well-proper}
 use Rattle.desk.specs.Questions.{verdict-asked}
-use Rattle.desk.proofs.TableLaws.{answered-well, well-judged}
 use Rattle.promise.specs.Promises.{Judged-rightly}
+use Rattle.promise.proofs.TableLaws.{answered-well, well-judged}
 
 -- bytes that get a verdict are a table
 pub judged-well : (s : List ℕ) {v : Verdict} → verdict-asked s ≡ answered v → WellFormed s

@@ -1,48 +1,76 @@
 -- The numbers are those of the definitions: what each question is answered where nothing is refused.
 -- Assumes nothing.
-use mathlib.Core.Path.{_≡_, ap, subst, _∙_}
+use mathlib.Core.Path.{_≡_, sym, ap, subst, _∙_}
 use mathlib.Core.List.{List}
 use Prim.Native.Nat.{ℕ, _≤_, _<_}
 use native.Mathlib.Omega.{arith}
-use borrow.Author.Tests.{le-ltb, lt-leb}
 use Rattle.laws.specs.Search.{Found}
 use Rattle.model.specs.Task.{Task}
 use Rattle.model.specs.Demand.{demand, work, margin}
 use Rattle.model.specs.Verdict.{horizon, closing-window}
 use Rattle.model.specs.Meaning.{Window-says}
+use Rattle.model.specs.Request.{Has-frame}
+use Rattle.model.specs.Response.{Response, higher-share, response}
+use Rattle.model.specs.ResponseMeaning as Recurrence
 use Rattle.model.specs.Answer.{answered}
 use Rattle.model.proofs.AllLaws.{margin-zero}
+use Rattle.model.proofs.HigherLaws.{response-right}
 use Rattle.model.proofs.WindowLaws.{window-says}
-use Rattle.table.specs.Bytes.{Bytes}
+use Rattle.table.specs.Bytes.{Bytes, records}
 use Rattle.table.specs.TableOf.{table-of}
 use Rattle.table.specs.WellFormed.{WellFormed}
 use Rattle.table.proofs.TaskLaws.{well-proper}
 use Rattle.requests.specs.Entry.{list-of}
 use Rattle.requests.specs.Accepted.{Accepted}
-use Rattle.desk.specs.Questions.{by-time, by-task, one-task, counts, replays, demand-asked, work-asked, margin-asked, window-asked, list-asked}
-use Rattle.desk.specs.ResponseMeaning.{Told}
-use Rattle.desk.proofs.TableLaws.{table-asked, well-judged}
-use Rattle.desk.proofs.ListExact.{good-answered, replay-means}
-use Rattle.desk.proofs.ResponseExact.{frame-answered, response-told}
+use Rattle.response.specs.Deadlines.{Within-P}
+use Rattle.desk.specs.Orders.{table-only, time-order, task-order, frame-order}
+use Rattle.desk.specs.Questions.{read-asked, one-task, demand-asked, work-asked, margin-asked, window-asked, response-asked}
+use Rattle.desk.specs.ListQuestions.{counts, replays, list-asked}
 use Rattle.promise.specs.Numbers.{Replayed-rightly, Numbers}
+use Rattle.promise.proofs.TableLaws.{well-judged}
+use Rattle.promise.proofs.ListExact.{good-answered, replay-means}
+use Rattle.promise.proofs.OrderExact.{order-answered, order-kept}
+use Rattle.promise.proofs.OrdersRight.{time-right, task-right, frame-right}
 use Rattle.promise.proofs.BenchLaws.{loaded-rightly}
 use Rattle.promise.proofs.PassedLaws.{accepted-replayed}
 
 module _ (s : List ℕ) (well : WellFormed s) where
+  read-answered : read-asked s ≡ answered (record { records = records s; tasks = table-of s .tasks })
+  unfolding read-asked
+  read-answered =
+      order-answered s table-only (λ table. record { records = records s; tasks = table .tasks }) (λ good. tt) well tt
+
   -- of one task at a time within the limit
   one-answered : (sum : Task → ℕ → ℕ) (k t : ℕ) → k < table-of s .tasks → t ≤ horizon
       → one-task sum s k t ≡ answered (sum (table-of s .task k) t)
   one-answered sum k t known near =
-      table-asked s (by-task sum k t) well ∙ rw (lt-leb (table-of s .tasks) k known, le-ltb horizon t near)
+      order-answered s (task-order k t) (λ table. sum (table .task k) t) (λ good. task-right s k t) well
+      (known, (near, tt))
 
   margin-answered : (t : ℕ) → t ≤ horizon → margin-asked s t ≡ answered (margin (table-of s) t)
   unfolding margin-asked
   margin-answered t near =
-      table-asked s (by-time t (λ table. margin table t)) well ∙ rw (le-ltb horizon t near)
+      order-answered s (time-order t) (λ table. margin table t) (λ good. time-right s t) well (near, tt)
 
   window-answered : window-asked s ≡ answered (closing-window horizon (table-of s))
   unfolding window-asked
-  window-answered = table-asked s (λ table. answered (closing-window horizon table)) well
+  window-answered = order-answered s table-only (closing-window horizon) (λ good. tt) well tt
+
+  frame-answered : (k i : ℕ) → Has-frame (table-of s) k i → Within-P s (records s)
+      → response-asked s k i ≡ answered (response (table-of s) k i)
+  unfolding response-asked
+  frame-answered k i has within =
+      order-answered s (frame-order k i) (λ table. response table k i) (λ good. frame-right s k i) well
+      (has, (within, tt))
+
+  -- whichever is answered is the response of the recurrence
+  response-told : (k i : ℕ) (r : Response) → response-asked s k i ≡ answered r
+      → Recurrence.Says (higher-share (table-of s) k) (table-of s .task k .E i) (table-of s .task k .D i) r
+  unfolding response-asked
+  response-told k i r is =
+      let (good, same, keeps) = order-kept s (frame-order k i) (λ table. response table k i) (λ good. frame-right s k i) is in
+      subst (Recurrence.Says (higher-share (table-of s) k) (table-of s .task k .E i) (table-of s .task k .D i)) (sym same)
+      (response-right (table-of s) k i)
 
   window-told : (w : Found) → window-asked s ≡ answered w → Window-says horizon (table-of s) w
   window-told w asked =
@@ -59,6 +87,7 @@ module _ (s : List ℕ) (well : WellFormed s) where
   unfolding demand-asked work-asked list-asked
   numbers bytes =
       record {
+        reads = read-answered;
         demands = one-answered demand;
         works = one-answered work;
         margins = margin-answered;
@@ -66,8 +95,8 @@ module _ (s : List ℕ) (well : WellFormed s) where
         window = window-answered;
         window-says = window-told;
         verdict-is = well-judged s well;
-        responses = λ k i has. frame-answered s k i (record { table-good = well; has = has });
-        responses-say = λ k i r is. subst (Told s k i) is (response-told s k i) .says;
+        responses = frame-answered;
+        responses-say = response-told;
         counts = λ list accepted. good-answered counts s list (record { table-good = well; list-good = accepted });
         loads = loaded-rightly s bytes well;
         replays = replayed bytes;

@@ -21,17 +21,18 @@ use Rattle.table.specs.WellFormed.{WellFormed}
 use Rattle.table.proofs.TaskLaws.{well-proper}
 use Rattle.requests.specs.Entry.{list-of}
 use Rattle.requests.specs.Accepted.{Accepted}
-use Rattle.overload.specs.declared.write.Written.the-variants.{Bytes}
-use Rattle.overload.specs.Place.{Wrote}
 use Rattle.overload.specs.Shows.{Shows}
-use Rattle.desk.specs.Questions.{replays, verdict-asked, replay-asked}
-use Rattle.desk.specs.Overload.{list-at, overload-asked}
-use Rattle.desk.specs.OverloadMeaning.{Overloaded-at}
-use Rattle.desk.proofs.ListExact.{replay-means}
-use Rattle.desk.proofs.TableLaws.{well-judged}
-use Rattle.desk.proofs.WritingExact.{over-at, over-judged, over-shows, over-written}
-use Rattle.desk.proofs.WritingLeft.{wrote-leaves}
+use Rattle.desk.specs.declared.answers.Written.{Written}
+use Rattle.desk.specs.Orders.{Overloaded-at, list-at}
+use Rattle.desk.specs.Questions.{verdict-asked, overload-asked}
+use Rattle.desk.specs.ListQuestions.{replays, replay-asked}
+use Rattle.desk.specs.FlatList.{Flat-wrote}
 use Rattle.promise.specs.Promises.{Replays-missed, Overload-shown}
+use Rattle.promise.proofs.ListExact.{replay-means}
+use Rattle.promise.proofs.TableLaws.{well-judged}
+use Rattle.promise.proofs.OverloadVerdicts.{over-at}
+use Rattle.promise.proofs.WritingExact.{over-judged, over-shows, over-size, over-written}
+use Rattle.promise.proofs.WrittenBack.{wrote-list}
 use Rattle.promise.proofs.JudgedLaws.{judged-well, judged-means}
 use Rattle.promise.proofs.PassedLaws.{accepted-replayed}
 
@@ -40,8 +41,8 @@ module _ (s : List ℕ) (bytes : Table.Bytes s) {t : ℕ} {m : ℤ} {starts : Li
   well : WellFormed s
   well = judged-well s judged
 
-  at-t : Overloaded-at s t
-  at-t = over-at well (judged-means s bytes judged)
+  at-t : Overloaded-at (table-of s) t
+  at-t = over-at (judged-means s bytes judged)
 
   abbrev list : List ℕ
   list = list-at (table-of s) t
@@ -50,7 +51,7 @@ module _ (s : List ℕ) (bytes : Table.Bytes s) {t : ℕ} {m : ℤ} {starts : Li
   jobs = jobs-of (table-of s) (list-of list)
 
   shows : Shows (table-of s) t list
-  shows = over-shows s bytes at-t
+  shows = over-shows s bytes well at-t
 
   too-much : Too-much jobs 0 t
   too-much =
@@ -58,12 +59,14 @@ module _ (s : List ℕ) (bytes : Table.Bytes s) {t : ℕ} {m : ℤ} {starts : Li
       omega (arith, verdict-over (well-proper bytes well) is .over, shows .asks)
 
   -- what is read back is the list of the one t that the verdict names
-  read-back : (buffer : List ℕ) (place n : ℕ) (after : List ℕ)
-      → Wrote buffer place (overload-asked s buffer place) (Bytes n) after → take n (drop place after) ≡ list
-  read-back buffer place n after wrote =
-      let writes = wrote-leaves s buffer place bytes wrote .writes in
-      let same : writes .t ≡ t = cc (over-judged s bytes (writes .overloaded), judged) in
-      writes .is ∙ ap (list-at (table-of s)) same
+  read-back : (buffer : List ℕ) (place : ℕ) (r : Written) (after : List ℕ)
+      → Flat-wrote buffer place (overload-asked s buffer place) r after → r .refusal .number ≡ 0
+      → take (r .bytes) (drop place after) ≡ list
+  read-back buffer place r after wrote none =
+      let back = wrote-list s bytes buffer place wrote none in
+      let writes = back .writes in
+      let same : writes .t ≡ t = cc (over-judged s bytes (writes .table-good) (writes .overloaded), judged) in
+      back .is ∙ writes .is ∙ ap (list-at (table-of s)) same
 
   replays-missed : Accepted (table-of s) list → Replays-missed s list
   replays-missed accepted = which (replays (table-of s) (list-of list)) (accepted-replayed s list well accepted)
@@ -77,7 +80,8 @@ module _ (s : List ℕ) (bytes : Table.Bytes s) {t : ℕ} {m : ℤ} {starts : Li
   overloaded-shown =
       record {
         list = list;
-        written = λ buffer place room. over-written s buffer place bytes t at-t room;
+        size = over-size s bytes well at-t;
+        written = over-written s bytes well at-t;
         read-back = read-back;
         woven = shows .woven;
         legal = shows .legal;

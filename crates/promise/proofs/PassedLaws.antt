@@ -21,9 +21,10 @@ use Rattle.table.proofs.TaskLaws.{well-proper}
 use Rattle.requests.specs.Entry.{list-of}
 use Rattle.requests.specs.Accepted.{Accepted}
 use Rattle.requests.proofs.AcceptedLaws.{accepted-legal}
-use Rattle.desk.specs.Questions.{replays, verdict-asked, replay-asked}
-use Rattle.desk.proofs.ListExact.{good-answered, replay-means}
+use Rattle.desk.specs.Questions.{verdict-asked}
+use Rattle.desk.specs.ListQuestions.{replays, replay-asked}
 use Rattle.promise.specs.Promises.{Finishes-each, Replays-met, Passed}
+use Rattle.promise.proofs.ListExact.{good-answered, replay-means}
 use Rattle.promise.proofs.JudgedLaws.{judged-well, judged-means}
 
 -- the bench answers whatever list it accepts

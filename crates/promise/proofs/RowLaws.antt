@@ -27,7 +27,7 @@ module _ {Row : Type 0} (bytes-of : Row → List ℕ) (test : Row → Bool) wher
   right row = every is-byte (bytes-of row) && test row
 
   module _ (Right : Row → Type 0) (shows : (row : Row) → Bytes (bytes-of row) → T (test row) → Right row) where
-    row-right : (row : Row) → T (right row) → Right row
+    pub row-right : (row : Row) → T (right row) → Right row
     unfolding right
     row-right row computed =
         let all = every is-byte (bytes-of row) in

@@ -11,8 +11,7 @@ use Rattle.model.specs.Verdict.{Verdict, overloaded, fits, undecided}
 use Rattle.model.specs.Replay.{Replayed, missed, all-met}
 use Rattle.model.specs.Response.{Response, on-time, late}
 use Rattle.model.specs.Answer.{Answer, answered, refused}
-use Rattle.overload.specs.declared.write.Written.{Written}
-use Rattle.overload.specs.declared.write.Written.the-variants.{Bytes, Refused}
+use Rattle.promise.specs.Asked.{Question, read, demand, work, margin, window, verdict, response, overload-size, overload, list, load, replay, row}
 
 -- what is made of two numbers is the same where both are
 same-two : {A : Type 0} (make : ℕ → ℕ → A) (v n w m : ℕ) → T (eqb v w && eqb n m) → make v n ≡ make w m
@@ -122,17 +121,33 @@ same-answer-is same is (answered a) (refused n i) h = absurd h
 same-answer-is same is (refused m j) (answered b) h = absurd h
 same-answer-is same is (refused m j) (refused n i) h = same-two refused m j n i h
 
-unfoldable pub same-written : Written → Written → Bool
-same-written (Bytes m) (Bytes n) = eqb m n
-same-written (Bytes m) (Refused y) = false
-same-written (Refused x) (Bytes n) = false
-same-written (Refused x) (Refused y) = eqb (x .number) (y .number) && eqb (x .index) (y .index)
+-- ---- whatever a question gets. What nobody names is never the same: a number read, a window and a bench
 
-pub same-written-is : (a b : Written) → T (same-written a b) → a ≡ b
-unfolding same-written
-same-written-is (Bytes m) (Bytes n) h = ap Bytes (eqb→eq m n h)
-same-written-is (Bytes m) (Refused y) h = absurd h
-same-written-is (Refused x) (Bytes n) h = absurd h
-same-written-is (Refused x) (Refused y) h =
-    same-two (λ number index. Refused (record { number = number; index = index })) (x .number) (x .index) (y .number)
-    (y .index) h
+unfoldable pub same-said : (s : List ℕ) (q : Question) → (x y : row s q .Says) → Bool
+same-said s read x y = false
+same-said s (demand k t) x y = eqb x y
+same-said s (work k w) x y = eqb x y
+same-said s (margin t) x y = same-int x y
+same-said s window x y = false
+same-said s verdict x y = same-verdict x y
+same-said s (response k i) x y = same-response x y
+same-said s overload-size x y = eqb x y
+same-said s (overload buffer place) x y = same-list x y
+same-said s (list l) x y = eqb x y
+same-said s (load l) x y = false
+same-said s (replay l) x y = same-replay x y
+
+pub same-said-is : (s : List ℕ) (q : Question) (x y : row s q .Says) → T (same-said s q x y) → x ≡ y
+unfolding same-said
+same-said-is s read x y h = absurd h
+same-said-is s (demand k t) x y h = eqb→eq x y h
+same-said-is s (work k w) x y h = eqb→eq x y h
+same-said-is s (margin t) x y h = same-int-is x y h
+same-said-is s window x y h = absurd h
+same-said-is s verdict x y h = same-verdict-is x y h
+same-said-is s (response k i) x y h = same-response-is x y h
+same-said-is s overload-size x y h = eqb→eq x y h
+same-said-is s (overload buffer place) x y h = same-list-is x y h
+same-said-is s (list l) x y h = eqb→eq x y h
+same-said-is s (load l) x y h = absurd h
+same-said-is s (replay l) x y h = same-replay-is x y h

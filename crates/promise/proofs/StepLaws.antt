@@ -1,4 +1,4 @@
--- A bench that is stepped from C or Rust is the desk's bench, after each tick.
+-- A bench that is stepped from outside is the document's bench, after each tick; and the bench beside a refusal is zero.
 -- Assumes nothing.
 use mathlib.Core.Path.{_≡_, refl, sym, ap, _∙_}
 use mathlib.Core.Logic.{⊎-elim}
@@ -12,10 +12,12 @@ use Rattle.bench.specs.declared.state.Outcome.the-variants.{Running, Missed, Al
 use Rattle.bench.specs.Rule.{with-outcome, tick-of, run-of}
 use Rattle.bench.specs.Ticked.{Going}
 use Rattle.bench.proofs.OneUnit.{tick-stands}
-use Rattle.face.specs.State.{outcome-number, missed-record, flat-bench, flat-tick}
-use Rattle.face.proofs.StateLaws.{tick-stopped, tick-past, tick-running}
-use Rattle.promise.specs.ReadBack.{outcome-by, read-state}
-use Rattle.promise.specs.NothingLost.{Kept-by, flat-run, Stepped}
+use Rattle.bench.specs.Loaded.{slots-of, loaded}
+use Rattle.laws.specs.Sums.{tabulate}
+use Rattle.desk.specs.FlatBench.{outcome-number, missed-record, flat-bench, flat-tick}
+use Rattle.desk.proofs.TickLaws.{tick-stopped, tick-past, tick-running}
+use Rattle.promise.specs.Forms.{outcome-by, read-state}
+use Rattle.promise.specs.NothingLost.{flat-run, Stepped, Idle-zero}
 
 outcome-kept : (o : Outcome) → outcome-by (outcome-number o) (missed-record o) ≡ o
 outcome-kept Running = refl
@@ -23,7 +25,7 @@ outcome-kept (Missed index) = refl
 outcome-kept AllMet = refl
 
 module _ (b : Bench) where
-  state-kept : Kept-by flat-bench read-state b
+  pub state-kept : read-state (flat-bench b) ≡ b
   unfolding flat-bench
   state-kept = ap (with-outcome b) (outcome-kept (b .outcome))
 
@@ -58,3 +60,7 @@ run-kept (suc n) b = ap (flat-run n) (by-outcome b (b .outcome) refl) ∙ run-ke
 
 pub stepped : (b : Bench) → Stepped b
 stepped b = record { state = state-kept b; steps = λ n. run-kept n b }
+
+pub idle-zero : Idle-zero
+unfolding flat-bench loaded slots-of tabulate
+idle-zero = refl

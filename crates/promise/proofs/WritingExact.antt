@@ -94,7 +94,7 @@ module _ (s buffer : List ℕ) (place : ℕ) (bytes : Bytes s) where
   told-leaves (refused number index) is = refl
   told-leaves (answered list) is =
       let (well, same, ((t, over), (room, end))) =
-          order-kept s (writing-order buffer place) list-in (λ good. writing-right s bytes good buffer place) is in
+      order-kept s (writing-order buffer place) list-in (λ good. writing-right s bytes good buffer place) is in
       let list-is = same ∙ over-list s bytes well over in (
         record {
           table-good = well;

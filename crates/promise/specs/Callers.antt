@@ -5,6 +5,7 @@ use mathlib.Core.Path.{_≡_}
 use mathlib.Core.Bool.{true, false}
 use mathlib.Core.List.{List}
 use Prim.Native.Nat.{ℕ, _≤_}
+use base.Fml.{Lft}
 use denote.Ref.{now}
 use lib.ListN.{take, drop}
 use Rattle.model.specs.Verdict.{horizon}
@@ -22,13 +23,13 @@ use Rattle.promise.specs.Contracts.{Slice, Allows}
 
 -- the contract allows a call with these arguments to give this answer, and to leave the buffer so
 abbrev pub Judges : Slice → Verdict → Type 0
-Judges s r = (after : List ℕ) × Allows s s verdict r after
+Judges s r = (κ : Lft) × (ℓ : Lft) × (after : List ℕ) × Allows κ ℓ s s verdict r after
 
 abbrev pub Writes-into : Slice → Slice → ℕ → Written → List ℕ → Type 0
-Writes-into s buffer place r after = Allows s buffer (overload (now buffer) place) r after
+Writes-into s buffer place r after = (κ : Lft) × (ℓ : Lft) × Allows κ ℓ s buffer (overload (now buffer) place) r after
 
 abbrev pub Replays : Slice → Slice → Ending → Type 0
-Replays s list r = (after : List ℕ) × Allows s list (replay (now list)) r after
+Replays s list r = (κ : Lft) × (ℓ : Lft) × (after : List ℕ) × Allows κ ℓ s list (replay (now list)) r after
 
 -- what a caller that has called on the bytes of s may rely on
 pub record Callers (s : Slice) : Type 0 where

@@ -6,7 +6,7 @@
 use mathlib.Core.Path.{_≡_}
 use mathlib.Core.List.{List, []}
 use Prim.Native.Nat.{ℕ}
-use contract.Lifetimes.{Lfts}
+use base.Fml.{Lft}
 use denote.Ref.{RefT, now}
 use Rattle.desk.proofs.amounts.limpidorsa_read.Reads as limpidorsa_read
 use Rattle.desk.proofs.amounts.limpidorsa_demand.Reads as limpidorsa_demand
@@ -27,41 +27,38 @@ use Rattle.promise.specs.Asked.{Question, row}
 abbrev pub Slice : Type 0
 Slice = RefT (List ℕ)
 
--- what a function of n lifetimes requires, of these arguments
-abbrev Requires : (n : ℕ) {Args : Type 0} → (Lfts n → Args → Type 0) → Args → Type 0
-Requires n asked a = (κs : Lfts n) → asked κs a
+-- what a function may return, whose contract tells this of its arguments, its answer and the arguments at the return
+abbrev Returns : {Args R : Type 0} → (Args → R → Args → Type 0) → Args → R → (Args → Type 0) → Type 0
+Returns {Args} learnt a r Leaves = (x : Args) × learnt a r x × Leaves x
 
--- what it may return
-abbrev Returns : (n : ℕ) {Args R : Type 0} → (Lfts n → Args → R → Args → Type 0) → Args → R → (Args → Type 0) → Type 0
-Returns n {Args} learnt a r Leaves = (κs : Lfts n) × (x : Args) × learnt κs a r x × Leaves x
-
-abbrev pub Free : Slice → Slice → Question → Type 0
-Free s other Ask.read = Requires 1 limpidorsa_read.Asked (s, tt)
-Free s other (Ask.demand k t) = Requires 1 limpidorsa_demand.Asked (s, (k, (t, tt)))
-Free s other (Ask.work k w) = Requires 1 limpidorsa_work.Asked (s, (k, (w, tt)))
-Free s other (Ask.margin t) = Requires 1 limpidorsa_margin.Asked (s, (t, tt))
-Free s other Ask.window = Requires 1 limpidorsa_window.Asked (s, tt)
-Free s other Ask.verdict = Requires 1 limpidorsa_verdict.Asked (s, tt)
-Free s other (Ask.response k i) = Requires 1 limpidorsa_response.Asked (s, (k, (i, tt)))
-Free s other Ask.overload-size = Requires 1 limpidorsa_overload_size.Asked (s, tt)
-Free s other (Ask.overload buffer place) = Requires 2 limpidorsa_overload.Asked (s, (other, (place, tt)))
-Free s other (Ask.list bytes) = Requires 2 limpidorsa_list.Asked (s, (other, tt))
-Free s other (Ask.load bytes) = Requires 2 limpidorsa_load.Asked (s, (other, tt))
-Free s other (Ask.replay bytes) = Requires 2 limpidorsa_replay.Asked (s, (other, tt))
+-- what is required, of these slices and the question's numbers, at any lifetimes
+abbrev pub Free : Lft → Lft → Slice → Slice → Question → Type 0
+Free κ ℓ s other Ask.read = limpidorsa_read.Asked (κ, tt) (s, tt)
+Free κ ℓ s other (Ask.demand k t) = limpidorsa_demand.Asked (κ, tt) (s, (k, (t, tt)))
+Free κ ℓ s other (Ask.work k w) = limpidorsa_work.Asked (κ, tt) (s, (k, (w, tt)))
+Free κ ℓ s other (Ask.margin t) = limpidorsa_margin.Asked (κ, tt) (s, (t, tt))
+Free κ ℓ s other Ask.window = limpidorsa_window.Asked (κ, tt) (s, tt)
+Free κ ℓ s other Ask.verdict = limpidorsa_verdict.Asked (κ, tt) (s, tt)
+Free κ ℓ s other (Ask.response k i) = limpidorsa_response.Asked (κ, tt) (s, (k, (i, tt)))
+Free κ ℓ s other Ask.overload-size = limpidorsa_overload_size.Asked (κ, tt) (s, tt)
+Free κ ℓ s other (Ask.overload buffer place) = limpidorsa_overload.Asked (κ, (ℓ, tt)) (s, (other, (place, tt)))
+Free κ ℓ s other (Ask.list bytes) = limpidorsa_list.Asked (κ, (ℓ, tt)) (s, (other, tt))
+Free κ ℓ s other (Ask.load bytes) = limpidorsa_load.Asked (κ, (ℓ, tt)) (s, (other, tt))
+Free κ ℓ s other (Ask.replay bytes) = limpidorsa_replay.Asked (κ, (ℓ, tt)) (s, (other, tt))
 
 -- the contract allows a call with these slices and the question's numbers to answer r, and to leave `after` in the
 -- buffer
-abbrev pub Allows : (s other : Slice) (q : Question) → row (now s) q .form .Flat → List ℕ → Type 0
-Allows s other Ask.read r after = Returns 1 limpidorsa_read.Learnt (s, tt) r (λ x. after ≡ [])
-Allows s other (Ask.demand k t) r after = Returns 1 limpidorsa_demand.Learnt (s, (k, (t, tt))) r (λ x. after ≡ [])
-Allows s other (Ask.work k w) r after = Returns 1 limpidorsa_work.Learnt (s, (k, (w, tt))) r (λ x. after ≡ [])
-Allows s other (Ask.margin t) r after = Returns 1 limpidorsa_margin.Learnt (s, (t, tt)) r (λ x. after ≡ [])
-Allows s other Ask.window r after = Returns 1 limpidorsa_window.Learnt (s, tt) r (λ x. after ≡ [])
-Allows s other Ask.verdict r after = Returns 1 limpidorsa_verdict.Learnt (s, tt) r (λ x. after ≡ [])
-Allows s other (Ask.response k i) r after = Returns 1 limpidorsa_response.Learnt (s, (k, (i, tt))) r (λ x. after ≡ [])
-Allows s other Ask.overload-size r after = Returns 1 limpidorsa_overload_size.Learnt (s, tt) r (λ x. after ≡ [])
-Allows s other (Ask.overload buffer place) r after =
-    Returns 2 limpidorsa_overload.Learnt (s, (other, (place, tt))) r (λ x. after ≡ now (x .1 .0))
-Allows s other (Ask.list bytes) r after = Returns 2 limpidorsa_list.Learnt (s, (other, tt)) r (λ x. after ≡ [])
-Allows s other (Ask.load bytes) r after = Returns 2 limpidorsa_load.Learnt (s, (other, tt)) r (λ x. after ≡ [])
-Allows s other (Ask.replay bytes) r after = Returns 2 limpidorsa_replay.Learnt (s, (other, tt)) r (λ x. after ≡ [])
+abbrev pub Allows : (κ ℓ : Lft) (s other : Slice) (q : Question) → row (now s) q .form .Flat → List ℕ → Type 0
+Allows κ ℓ s other Ask.read r after = Returns (limpidorsa_read.Learnt (κ, tt)) (s, tt) r (λ x. after ≡ [])
+Allows κ ℓ s other (Ask.demand k t) r after = Returns (limpidorsa_demand.Learnt (κ, tt)) (s, (k, (t, tt))) r (λ x. after ≡ [])
+Allows κ ℓ s other (Ask.work k w) r after = Returns (limpidorsa_work.Learnt (κ, tt)) (s, (k, (w, tt))) r (λ x. after ≡ [])
+Allows κ ℓ s other (Ask.margin t) r after = Returns (limpidorsa_margin.Learnt (κ, tt)) (s, (t, tt)) r (λ x. after ≡ [])
+Allows κ ℓ s other Ask.window r after = Returns (limpidorsa_window.Learnt (κ, tt)) (s, tt) r (λ x. after ≡ [])
+Allows κ ℓ s other Ask.verdict r after = Returns (limpidorsa_verdict.Learnt (κ, tt)) (s, tt) r (λ x. after ≡ [])
+Allows κ ℓ s other (Ask.response k i) r after = Returns (limpidorsa_response.Learnt (κ, tt)) (s, (k, (i, tt))) r (λ x. after ≡ [])
+Allows κ ℓ s other Ask.overload-size r after = Returns (limpidorsa_overload_size.Learnt (κ, tt)) (s, tt) r (λ x. after ≡ [])
+Allows κ ℓ s other (Ask.overload buffer place) r after =
+    Returns (limpidorsa_overload.Learnt (κ, (ℓ, tt))) (s, (other, (place, tt))) r (λ x. after ≡ now (x .1 .0))
+Allows κ ℓ s other (Ask.list bytes) r after = Returns (limpidorsa_list.Learnt (κ, (ℓ, tt))) (s, (other, tt)) r (λ x. after ≡ [])
+Allows κ ℓ s other (Ask.load bytes) r after = Returns (limpidorsa_load.Learnt (κ, (ℓ, tt))) (s, (other, tt)) r (λ x. after ≡ [])
+Allows κ ℓ s other (Ask.replay bytes) r after = Returns (limpidorsa_replay.Learnt (κ, (ℓ, tt))) (s, (other, tt)) r (λ x. after ≡ [])

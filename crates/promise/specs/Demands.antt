@@ -4,6 +4,7 @@
 use mathlib.Core.Path.{_≡_}
 use mathlib.Core.List.{List}
 use Prim.Native.Nat.{ℕ}
+use base.Fml.{Lft}
 use denote.Ref.{now}
 use lib.IntN.{ℤ}
 use Rattle.model.specs.Verdict.{overloaded, fits}
@@ -46,7 +47,8 @@ pub record Demands (s : List ℕ) : Type 0 where
 pub record Promised : Type 0 where
   pub demands : (s : List ℕ) → Bytes s → Demands s
   -- "Every part of every answer is settled": of each question's function, and of those that step a bench
-  pub settled : (s other : Slice) (q : Question) → row (now s) q .Lends (now other) → One-answer s other q
+  pub settled : (κ ℓ : Lft) (s other : Slice) (q : Question) → row (now s) q .Lends (now other)
+      → One-answer κ ℓ s other q
   pub settled-bench : Settled-each
   -- a bench that is stepped from outside is the document's, and beside a refusal it is all zero
   pub stepped : (b : Bench) → Stepped b

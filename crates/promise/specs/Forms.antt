@@ -29,13 +29,9 @@ pub record Form (Says : Type 0) : Type 1 where
   pub Sees : Type 0
   pub Flat : Type 0
   pub look : Says → Sees
-  pub lay : Answer Sees → Flat
+  pub lay : Answer Says → Flat
   pub refusal-in : Flat → Refusal
   pub value-in : Flat → Sees
-
--- the struct of an answer
-abbrev pub laid : {A : Type 0} (form : Form A) → Answer A → form .Flat
-laid form said = form .lay (seen (form .look) said)
 
 -- 0 says that nothing was refused
 abbrev pub read-back : {A : Type 0} (form : Form A) → form .Flat → Answer (form .Sees)
@@ -85,7 +81,7 @@ written-form =
       Sees = ℕ;
       Flat = flat.Written.Written;
       look = length;
-      lay = flat-written;
+      lay = λ said. flat-written (seen length said);
       refusal-in = λ r. r .refusal;
       value-in = λ r. r .bytes;
     }

@@ -64,6 +64,10 @@ K4-place-5 = writes B twenty 5 (refused 12 0) twenty
 abbrev pub K5 : Named
 K5 = record { bytes = B; question = Ask.replay B-list; says = answered (missed 2 1); leaves = [] }
 
+-- "(1,1,1) fits: window 1, margin 0 at 1"
+abbrev pub K6 : Named
+K6 = judged (sporadic 0 1 1 1) (fits 1 (pos 0) 1)
+
 -- "Task 3 frame 0 goes 2, 8, 10, 13, 14: 4 rounds."
 abbrev pub K8-task-3 : Named
 K8-task-3 = on-F 3 0 14 4
@@ -80,8 +84,8 @@ named =
     ∷ K4 ∷ K4-list ∷ K4-place-2 ∷ K4-place-5
     ∷ record { bytes = B; question = Ask.overload-size; says = answered 16; leaves = [] }
     ∷ K5
-    -- K6 (1,1,1) fits: window 1, margin 0 at 1; two of them: overloaded at 1, margin -1
-    ∷ judged (sporadic 0 1 1 1) (fits 1 (pos 0) 1)
+    -- and two of (1,1,1): overloaded at 1, margin -1
+    ∷ K6
     ∷ judged (sporadic 0 1 1 1 ++ sporadic 1 1 1 1) (overloaded 1 (negsuc 0) (replicate 16 0))
     -- K7 kind 3, E 2,1,2; D 2,20,2; P 2,1,10: demand at 5 is 4
     ∷ record { bytes = K7-task; question = Ask.demand 0 5; says = answered 4; leaves = [] }

@@ -5,7 +5,7 @@ use mathlib.Core.Path.{_≡_}
 use mathlib.Core.List.{List}
 use Prim.Native.Nat.{ℕ, zero, suc}
 use lib.ListN.{replicate}
-use Rattle.requests.specs.Reader.{most-requests}
+use Rattle.requests.specs.Entry.{most-requests}
 use Rattle.bench.specs.declared.state.Bench.{Bench}
 use Rattle.bench.specs.Rule.{run-of}
 use Rattle.bench.specs.Loaded.{loaded, no-jobs}

@@ -28,8 +28,8 @@ pub record Settles {Args Result Exit : Type 0} (asked : Args → Type 0) (contra
   pub one-answer : (a : Args) (r q : Result) (x y : Exit) → contract a r x → contract a q y → r ≡ q
 
 pub record Settled-each : Type 0 where
-  pub limpidorsa_tick : (κs : Lfts 0) →
-      Settles (limpidorsa_tick.Asked κs) (limpidorsa_tick.Learnt κs) (λ a. flat-tick (a .0))
   pub tick : (κs : Lfts 0) → Settles (tick.Asked κs) (tick.Learnt κs) (λ a. tick-of (a .0))
   pub run : (κs : Lfts 0) → Settles (run.Asked κs) (run.Learnt κs) (λ a. run-whole (a .0))
   pub finish : (κs : Lfts 0) → Settles (finish.Asked κs) (finish.Learnt κs) (λ a. replayed-of (end-of (a .0)))
+  pub limpidorsa_tick : (κs : Lfts 0) →
+      Settles (limpidorsa_tick.Asked κs) (limpidorsa_tick.Learnt κs) (λ a. flat-tick (a .0))

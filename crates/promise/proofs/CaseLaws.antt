@@ -27,9 +27,9 @@ use Rattle.desk.specs.Questions.{demand-asked, work-asked, margin-asked, verdic
 use Rattle.desk.specs.ListQuestions.{replay-asked}
 use Rattle.promise.specs.Tables.{A, B, twenty}
 use Rattle.promise.specs.Asked.{Question, row}
-use Rattle.promise.specs.Cases.{Case, Is-given, times, tasks, cases, Cases-given, skips-task, kind-four, seventeenth, zero-E, unlike-first, order-broken, wrong-frame}
+use Rattle.promise.specs.Cases.{Case, Is-given, times, tasks, cases, Cases-given}
 use Rattle.promise.proofs.SameLaws.{same-answer, same-answer-is}
-use Rattle.promise.proofs.RowLaws.{is-byte, right, row-right, rows-right}
+use Rattle.promise.proofs.RowLaws.{is-byte, right, rows-right}
 use Rattle.promise.proofs.EveryLaws.{every-question}
 
 -- the answer is this refusal
@@ -62,31 +62,3 @@ all-right = tt
 
 pub cases-given : Cases-given
 cases-given = rows-right (λ c. c .bytes) is-refused Is-given refused-given cases all-right
-
--- ---- those that are cited, each by its name
-
-pub record Cited : Type 0 where
-  pub skips : Is-given skips-task
-  pub kind : Is-given kind-four
-  pub room : Is-given seventeenth
-  pub zero : Is-given zero-E
-  pub unlike : Is-given unlike-first
-  pub order : Is-given order-broken
-  pub frame-wrong : Is-given wrong-frame
-
-one-given : (c : Case) → T (right (λ c. c .bytes) is-refused c) → Is-given c
-one-given = row-right (λ c. c .bytes) is-refused Is-given refused-given
-
-pub cited : Cited
-unfolding right is-refused gets is-byte every same-answer A B times verdict-asked replay-asked
-    reading-of read-all read-on record-of records-before records-of task-of check-of entry-of last-arrival sum frame
-cited =
-    record {
-      skips = one-given skips-task tt;
-      kind = one-given kind-four tt;
-      room = one-given seventeenth tt;
-      zero = one-given zero-E tt;
-      unlike = one-given unlike-first tt;
-      order = one-given order-broken tt;
-      frame-wrong = one-given wrong-frame tt;
-    }

@@ -20,3 +20,13 @@ pub mod RowLaws
 pub mod SameLaws
 pub mod NamedLaws
 pub mod CaseLaws
+pub mod PassedExample
+pub mod LegalNeeded
+pub mod OverloadedExample
+pub mod LoneExample
+pub mod LimitExample
+pub mod LongestExample
+pub mod UndecidedExample
+pub mod RefusalExamples
+pub mod FlatExamples
+pub mod Kept

@@ -17,6 +17,7 @@ use Rattle.model.proofs.AllLaws.{margin-zero}
 use Rattle.model.proofs.HigherLaws.{response-right}
 use Rattle.model.proofs.WindowLaws.{window-says}
 use Rattle.table.specs.Bytes.{Bytes, records}
+use Rattle.table.specs.declared.reader.Shape.{Shape}
 use Rattle.table.specs.TableOf.{table-of}
 use Rattle.table.specs.WellFormed.{WellFormed}
 use Rattle.table.proofs.TaskLaws.{well-proper}
@@ -33,6 +34,12 @@ use Rattle.promise.proofs.OrderExact.{order-answered, order-kept}
 use Rattle.promise.proofs.OrdersRight.{time-right, task-right, frame-right}
 use Rattle.promise.proofs.BenchLaws.{loaded-rightly}
 use Rattle.promise.proofs.PassedLaws.{accepted-replayed}
+
+-- bytes that are read are a table
+pub read-well : (s : List ℕ) {shape : Shape} → read-asked s ≡ answered shape → WellFormed s
+unfolding read-asked
+read-well s is =
+    order-kept s table-only (λ table. record { records = records s; tasks = table .tasks }) (λ good. tt) is .0
 
 module _ (s : List ℕ) (well : WellFormed s) where
   read-answered : read-asked s ≡ answered (record { records = records s; tasks = table-of s .tasks })

@@ -64,7 +64,7 @@ module _ (s : List ℕ) where
 -- ---- 13, then 12
 
 module _ (s : List ℕ) (bytes : Bytes s) (well : WellFormed s) where
-  calm-none : Calm (table-of s) horizon → (t : ℕ) → Overloaded-at (table-of s) t → ⊥
+  pub calm-none : Calm (table-of s) horizon → (t : ℕ) → Overloaded-at (table-of s) t → ⊥
   calm-none calm t over =
       true≢false (sym (is-below (table-of s) t (over .below))
       ∙ is-not-below (table-of s) t (calm t (over .from) (over .within)))

@@ -37,46 +37,21 @@ unfoldable pub tasks : ℕ → List ℕ
 tasks zero = []
 tasks (suc n) = tasks n ++ sporadic n 1 1 1
 
--- ---- those that are cited, by name
-
-abbrev pub skips-task : Case
-skips-task = no-table (sporadic 0 1 1 1 ++ sporadic 2 1 1 1) 2 1
-
-abbrev pub kind-four : Case
-kind-four = no-table (rec 0 4 1 1 1) 3 0
-
-abbrev pub seventeenth : Case
-seventeenth = no-table (times 17 (rec 0 3 1 1 1)) 4 16
-
-abbrev pub zero-E : Case
-zero-E = no-table (rec 0 3 0 1 1) 5 0
-
-abbrev pub unlike-first : Case
-unlike-first = no-table (rec 0 2 1 1 1 ++ rec 0 2 1 2 2) 6 1
-
-abbrev pub order-broken : Case
-order-broken = no-list (req 1 0 0 ++ req 0 0 0) 10 1
-
-abbrev pub wrong-frame : Case
-wrong-frame = no-list (req 0 0 0 ++ req 0 2 3) 11 1
-
--- ---- the table
-
 unfoldable pub cases : List Case
 cases =
     -- 1: "table length 0, above 512, or not a multiple of 8"
     no-table [] 1 0 ∷ no-table (times 65 (sporadic 0 1 1 1)) 1 0 ∷ no-table (0 ∷ []) 1 0
     -- 2: "task number above 15, or not the run described above"
-    ∷ no-table (tasks 17) 2 16 ∷ no-table (sporadic 1 1 1 1) 2 0 ∷ skips-task
+    ∷ no-table (tasks 17) 2 16 ∷ no-table (sporadic 1 1 1 1) 2 0 ∷ no-table (sporadic 0 1 1 1 ++ sporadic 2 1 1 1) 2 1
     -- 3: "kind not 1 to 3, differs inside a task, or second frame of kind 1"
-    ∷ kind-four ∷ no-table (rec 0 3 1 1 1 ++ rec 0 2 1 1 1) 3 1
+    ∷ no-table (rec 0 4 1 1 1) 3 0 ∷ no-table (rec 0 3 1 1 1 ++ rec 0 2 1 1 1) 3 1
     ∷ no-table (sporadic 0 1 1 1 ++ sporadic 0 1 1 1) 3 1
     -- 4: "seventeenth frame of a task"
-    ∷ seventeenth
+    ∷ no-table (times 17 (rec 0 3 1 1 1)) 4 16
     -- 5: "E, D or P is zero"
-    ∷ zero-E ∷ no-table (rec 0 3 1 0 1) 5 0 ∷ no-table (rec 0 3 1 1 0) 5 0
+    ∷ no-table (rec 0 3 0 1 1) 5 0 ∷ no-table (rec 0 3 1 0 1) 5 0 ∷ no-table (rec 0 3 1 1 0) 5 0
     -- 6: "kind 2 with D not P, or P unlike the task's first"
-    ∷ no-table (rec 0 2 1 1 2) 6 0 ∷ unlike-first
+    ∷ no-table (rec 0 2 1 1 2) 6 0 ∷ no-table (rec 0 2 1 1 1 ++ rec 0 2 1 2 2) 6 1
     -- 7: "t or a window asked about above 65,536"
     ∷ refuses A (demand 0 65537) 7 0 ∷ refuses A (work 0 65537) 7 0 ∷ refuses A (margin 65537) 7 0
     -- 8: "some frame of the table has D above its P", and record 2 is the "first such record"
@@ -88,9 +63,9 @@ cases =
     ∷ no-list (0 ∷ []) 10 0 ∷ no-list (times 129 (req 0 0 0)) 10 0
     -- ".. pad not zero, unknown task or frame, arrival too large, order broken"
     ∷ no-list (0 ∷ 0 ∷ 1 ∷ 0 ∷ 0 ∷ 0 ∷ 0 ∷ 0 ∷ []) 10 0 ∷ no-list (req 2 0 0) 10 0 ∷ no-list (req 1 1 0) 10 0
-    ∷ no-list (0 ∷ 0 ∷ 0 ∷ 0 ∷ 0 ∷ 0 ∷ 1 ∷ 0 ∷ []) 10 0 ∷ order-broken
+    ∷ no-list (0 ∷ 0 ∷ 0 ∷ 0 ∷ 0 ∷ 0 ∷ 1 ∷ 0 ∷ []) 10 0 ∷ no-list (req 1 0 0 ++ req 0 0 0) 10 1
     -- 11: "next request has the wrong frame or comes too soon"; "10 before 11"
-    ∷ wrong-frame ∷ no-list (req 0 0 0 ++ req 0 1 2) 11 1
+    ∷ no-list (req 0 0 0 ++ req 0 2 3) 11 1 ∷ no-list (req 0 0 0 ++ req 0 1 2) 11 1
     ∷ no-list (req 0 0 1 ++ req 0 2 0) 10 1
     -- "one task twice at the same arrival is refusal 10"
     ∷ no-list (req 0 0 0 ++ req 0 1 0) 10 1

@@ -14,3 +14,4 @@ pub mod Callers
 pub mod Named
 pub mod Cases
 pub mod Demands
+pub mod Examples

@@ -1,21 +1,22 @@
 // The numbers of document 01 that a caller may need, by name.
 use table::record::SIZE;
 
-// The greatest t, and the greatest window, that is asked about or searched.
+// "t is 0 to 65,536": the greatest t, and the greatest window, that is asked about or searched.
 pub const HORIZON: u64 = 65536;
 
-// The latest arrival in a request list.
+// "arrivals 0 to 65,535": the latest in a request list.
 pub const LAST_ARRIVAL: u32 = requests::rules::LAST_ARRIVAL;
 
-// The tick by which every run has ended: a bench that was loaded stops within LAST_TICK + 1 calls of limpidorsa_tick.
+// "All runs end by tick 131,070": a bench that was loaded stops within `LAST_TICK` + 1 calls of limpidorsa_tick.
 pub const LAST_TICK: u32 = bench::state::LAST_TICK;
 
-// As many records, and bytes, a table may have.
+// "At most 64 records": as many records, and bytes, a table may have.
 pub const MOST_RECORDS: usize = table::reader::MOST_RECORDS;
 
 pub const MOST_TABLE_BYTES: usize = MOST_RECORDS * SIZE;
 
-// As many records, and bytes, a request list may have that is replayed.
+// "A list has 0 to 128 records": as many records, and bytes, a list may have that is replayed. An overload list may have
+// more.
 pub const MOST_REQUESTS: usize = requests::reader::MOST_REQUESTS;
 
 pub const MOST_LIST_BYTES: usize = MOST_REQUESTS * SIZE;

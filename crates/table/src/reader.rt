@@ -12,7 +12,8 @@ pub struct Shape {
     pub tasks: usize,
 }
 
-// "Every refusal is a refusal number with the record index." In C's layout, for the boundary hands it out as it is.
+// "Every refusal is a refusal number with the record index." A number of document 01's table, and the index of the
+// record that it carries; 0 and 0 where nothing was refused. In C's layout, for the desk hands it out as it is.
 #[repr(C)]
 pub struct Refusal {
     pub number: u8,

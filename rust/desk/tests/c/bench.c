@@ -85,7 +85,7 @@ static void ticked_with_nothing_to_do(void)
 static struct limpidorsa_state foreign(void)
 {
     struct limpidorsa_state state = {.tick = 131070, .outcome = 7, .index = SIZE_MAX};
-    for (uint32_t i = 0; i < LIMPIDORSA_SLOTS; i++) {
+    for (uint32_t i = 0; i < LIMPIDORSA_MOST_REQUESTS; i++) {
         state.left[i] = UINT32_MAX - i;
         state.due[i] = UINT32_MAX - 1000 * i;
         state.arrive[i] = 131070 - i;

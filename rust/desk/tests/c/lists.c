@@ -30,6 +30,26 @@ static int64_t wrong_bytes(size_t place, size_t bytes)
     return wrong;
 }
 
+/* A buffer of just so many bytes is enough, and one byte less is not. */
+static void size_is(const uint8_t *table, size_t table_len, size_t bytes)
+{
+    static uint8_t room[32];
+    CHECK(written, limpidorsa_overload_size(table, table_len), answered(), bytes);
+    CHECK(written, limpidorsa_overload(table, table_len, room, bytes, 0), answered(), bytes);
+    CHECK(written, limpidorsa_overload(table, table_len, room, bytes - 1, 0), refused(12, 0), 0);
+}
+
+static void sizes_of_overload_lists(void)
+{
+    size_is(BYTES(B), 16);
+    size_is(BYTES(TWO), 16);
+    size_is(BYTES(K7_2_5_10), 32);
+    size_is(BYTES(LIMIT_OF_TWO), 16);
+    CHECK(written, limpidorsa_overload_size(BYTES(A)), refused(13, 0), 0);
+    CHECK(written, limpidorsa_overload_size(BYTES(UNDECIDED)), refused(13, 0), 0);
+    CHECK(written, limpidorsa_overload_size(NOTHING, 0), refused(1, 0), 0);
+}
+
 static void overload_list_of_b(void)
 {
     for (size_t place = 0; place <= 4; place++) {
@@ -62,6 +82,7 @@ static void long_overload_list(void)
         memcpy(table + i * 8, (const uint8_t[]){FRAME(i / 8, 3, 1, i % 8 == 7 ? 8 : 1023, 1)}, 8);
     CHECK(verdict, limpidorsa_verdict(BYTES(table)), answered(), LIMPIDORSA_OVERLOADED, 1023, -1, 0, 0);
 
+    CHECK(written, limpidorsa_overload_size(BYTES(table)), answered(), RECORDS * 8);
     memset(list, STAYS, sizeof list);
     CHECK(written, limpidorsa_overload(BYTES(table), BYTES(list), 2), refused(12, 0), 0);
     CHECK(number, list[0] == STAYS && memcmp(list, list + 1, sizeof list - 1) == 0, true);
@@ -78,6 +99,7 @@ static void long_overload_list(void)
 
 void overload_lists(void)
 {
+    sizes_of_overload_lists();
     overload_list_of_b();
     long_overload_list();
 }

@@ -1,4 +1,4 @@
-//! The header crates/face/limpidorsa.h as C and C++ see it: the program of tests/c is compiled, linked with the archive
+//! The header crates/desk/limpidorsa.h as C and C++ see it: the program of tests/c is compiled, linked with the archive
 //! and run, and the header alone is compiled as C++.
 use std::env;
 use std::io::{stderr, ErrorKind, Write};
@@ -7,7 +7,7 @@ use std::process::{Command, Output};
 
 const STRICT: [&str; 4] = ["-Wall", "-Wextra", "-Wpedantic", "-Werror"];
 
-const SOURCES: [&str; 3] = ["calls.c", "lists.c", "bench.c"];
+const SOURCES: [&str; 4] = ["calls.c", "lists.c", "bench.c", "limits.c"];
 
 fn here(name: &str) -> PathBuf {
     Path::new(env!("CARGO_MANIFEST_DIR")).join(name)
@@ -22,7 +22,7 @@ fn compiler(variable: &str, usual: &str) -> Command {
         .args(words)
         .args(STRICT)
         .arg("-I")
-        .arg(here("../crates/face"));
+        .arg(here("../../crates/desk"));
     command
 }
 
@@ -47,7 +47,7 @@ fn a_c_program_gets_every_answer() {
     let mut build = compiler("CC", "cc");
     build.arg("-std=c11").arg("-o").arg(&program);
     build.args(SOURCES.map(|name| here("tests/c").join(name)));
-    build.arg(here("../target/staticlib/libface.a"));
+    build.arg(here("../../target/staticlib/libdesk.a"));
     let built = output_of(&mut build)
         .expect("no C compiler: install gcc or clang so that `cc` is there, or name one in the variable CC");
     assert!(built.status.success(), "{build:?}\n{}", said(&built));
@@ -64,7 +64,7 @@ fn a_c_program_gets_every_answer() {
 fn the_header_is_c_plus_plus_too() {
     let mut look = compiler("CXX", "c++");
     look.args(["-fsyntax-only", "-x", "c++"])
-        .arg(here("../crates/face/limpidorsa.h"));
+        .arg(here("../../crates/desk/limpidorsa.h"));
     match output_of(&mut look) {
         Some(looked) => assert!(looked.status.success(), "{look:?}\n{}", said(&looked)),
         // Not by println, which a test that passes keeps to itself.

@@ -1,12 +1,13 @@
 /* Every function of limpidorsa.h, called from C on the tables of docs/01-scope.md, and every field of each answer
- * checked. To build and run it by hand, at the top of the repository, after `rt staticlib face`:
+ * checked. To build and run it by hand, at the top of the repository, after `rt staticlib desk`:
  *
- *     cc -std=c11 -Wall -Wextra -I crates/face -o target/calls rust/tests/c/{calls,lists,bench}.c \
- *         target/staticlib/libface.a
+ *     cc -std=c11 -Wall -Wextra -I crates/desk -o target/calls rust/desk/tests/c/{calls,lists,bench,limits}.c \
+ *         target/staticlib/libdesk.a
  *     target/calls
  *
  * It says each check that failed, then how many there were. lists.c has the calls about lists, bench.c those of the
- * bench, and this file all others; check.h has what checks an answer, and tables.h the tables.
+ * bench, limits.c those at the limits, and this file all others; check.h has what checks an answer, and tables.h the
+ * tables.
  */
 #include "limpidorsa.h"
 
@@ -157,6 +158,7 @@ static void every_question_tests_the_table_first(void)
     CHECK(window, limpidorsa_window(BYTES(bad)), no, false, 0);
     CHECK(verdict, limpidorsa_verdict(BYTES(bad)), no, 0, 0, 0, 0, 0);
     CHECK(response, limpidorsa_response(BYTES(bad), UINT64_MAX, UINT64_MAX), no, false, 0, 0);
+    CHECK(written, limpidorsa_overload_size(BYTES(bad)), no, 0);
     CHECK(written, limpidorsa_overload(BYTES(bad), BYTES(buffer), SIZE_MAX), no, 0);
     CHECK(listed, limpidorsa_list(BYTES(bad), NOTHING, 1), no, 0);
     CHECK(ending, limpidorsa_replay(BYTES(bad), NOTHING, 1), no, false, 0, 0);
@@ -175,6 +177,7 @@ int main(void)
     overload_lists();
     lists_and_replays();
     benches();
+    limits();
     printf("%lu checks, %lu failed\n", checks, failed);
     return failed == 0 ? EXIT_SUCCESS : EXIT_FAILURE;
 }

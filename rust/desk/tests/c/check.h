@@ -9,10 +9,11 @@
 /* How many checks were made, and how many of them failed; calls.c has them. */
 extern unsigned long checks, failed;
 
-/* The calls of lists.c, and of bench.c. */
+/* The calls of lists.c, of bench.c and of limits.c. */
 void overload_lists(void);
 void lists_and_replays(void);
 void benches(void);
+void limits(void);
 
 /* A pointer and a length: the two arguments that a slice is. */
 #define BYTES(array) array, sizeof array
@@ -118,7 +119,7 @@ static inline void check_ending(struct site at, struct limpidorsa_ending found, 
 static inline void check_state(struct site at, struct limpidorsa_state found, struct limpidorsa_state wanted)
 {
     FIELD(tick, wanted.tick), FIELD(outcome, wanted.outcome), FIELD(index, wanted.index);
-    for (int i = 0; i < LIMPIDORSA_SLOTS; i++) {
+    for (int i = 0; i < LIMPIDORSA_MOST_REQUESTS; i++) {
         FIELD(left[i], wanted.left[i]), FIELD(due[i], wanted.due[i]);
         FIELD(arrive[i], wanted.arrive[i]), FIELD(task[i], wanted.task[i]);
     }

@@ -1,0 +1,112 @@
+//! The program run on the small repository of tests/source: what it writes, and what it says of files that differ.
+use std::fs;
+use std::path::{Path, PathBuf};
+use std::process::{Command, Output};
+
+const WRITTEN: [&str; 2] = ["crates/desk/limpidorsa.h", "rust/desk/src/raw.rs"];
+
+fn fixture() -> PathBuf {
+    Path::new(env!("CARGO_MANIFEST_DIR")).join("tests/source")
+}
+
+fn run(words: &[&str], folder: &Path) -> Output {
+    let program = env!("CARGO_BIN_EXE_header");
+    Command::new(program).args(words).arg(folder).output().unwrap()
+}
+
+fn text(folder: &Path, file: &str) -> String {
+    fs::read_to_string(folder.join(file)).unwrap()
+}
+
+fn said(output: &Output) -> String {
+    String::from_utf8_lossy(&output.stdout).into_owned() + &String::from_utf8_lossy(&output.stderr)
+}
+
+// A copy of the small repository, for a test that changes it.
+fn copy(name: &str) -> PathBuf {
+    let to = Path::new(env!("CARGO_TARGET_TMPDIR")).join(name);
+    let _ = fs::remove_dir_all(&to);
+    copy_folder(&fixture(), &to);
+    to
+}
+
+fn copy_folder(from: &Path, to: &Path) {
+    fs::create_dir_all(to).unwrap();
+    for entry in fs::read_dir(from).unwrap().map(Result::unwrap) {
+        let target = to.join(entry.file_name());
+        if entry.file_type().unwrap().is_dir() {
+            copy_folder(&entry.path(), &target);
+        } else {
+            fs::copy(entry.path(), target).unwrap();
+        }
+    }
+}
+
+#[test]
+fn what_is_kept_is_what_is_written() {
+    let checked = run(&["--check"], &fixture());
+    assert!(
+        checked.status.success() && said(&checked).is_empty(),
+        "{}",
+        said(&checked)
+    );
+
+    let folder = copy("written");
+    for file in WRITTEN {
+        fs::remove_file(folder.join(file)).unwrap();
+    }
+    let ran = run(&[], &folder);
+    assert!(ran.status.success() && said(&ran).is_empty(), "{}", said(&ran));
+    for file in WRITTEN {
+        assert_eq!(text(&folder, file), text(&fixture(), file), "{file}");
+    }
+}
+
+#[test]
+fn a_check_names_the_file_that_differs_and_writes_nothing() {
+    let folder = copy("differs");
+    let [header, raw] = WRITTEN;
+    let changed = text(&folder, header).replace("bool closes", "int closes");
+    fs::write(folder.join(header), &changed).unwrap();
+    let checked = run(&["--check"], &folder);
+    assert_eq!(checked.status.code(), Some(1));
+    let line = 1 + changed
+        .lines()
+        .position(|line| line.contains("int closes"))
+        .unwrap();
+    assert!(said(&checked).starts_with(&format!(
+        "{header}: it is not what the source says, from line {line} on; "
+    )));
+    assert!(!said(&checked).contains(raw));
+    assert_eq!(text(&folder, header), changed);
+
+    fs::remove_file(folder.join(raw)).unwrap();
+    let checked = run(&["--check"], &folder);
+    assert!(
+        checked.status.code() == Some(1) && said(&checked).contains(header) && said(&checked).contains(raw)
+    );
+    assert!(!folder.join(raw).exists());
+}
+
+#[test]
+fn a_line_that_is_not_known_is_named_and_nothing_is_written() {
+    let folder = copy("unknown");
+    let file = "crates/desk/src/answers.rt";
+    let source = text(&folder, file).replace("pub window: u64", "pub window: Option<u64>");
+    fs::write(folder.join(file), source).unwrap();
+    fs::remove_file(folder.join(WRITTEN[0])).unwrap();
+    let ran = run(&[], &folder);
+    assert_eq!(ran.status.code(), Some(1));
+    assert_eq!(
+        said(&ran),
+        format!("header: {file}:16: the type 'Option<u64>' is not known here\n")
+    );
+    assert!(!folder.join(WRITTEN[0]).exists());
+}
+
+#[test]
+fn a_word_that_is_not_known_is_told() {
+    let ran = run(&["--chek"], &fixture());
+    assert_eq!(ran.status.code(), Some(1));
+    assert_eq!(said(&ran), "header: it is 'header [--check] [FOLDER]'\n");
+}

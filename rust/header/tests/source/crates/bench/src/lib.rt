@@ -1,0 +1,2 @@
+// The bench.
+pub mod state;

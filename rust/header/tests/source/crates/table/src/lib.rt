@@ -1,0 +1,3 @@
+// The table reader.
+pub mod reader;
+pub mod record;

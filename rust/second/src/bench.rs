@@ -1,8 +1,8 @@
 //! The replay bench: a state, one tick of it, and the run to its end.
 
-use super::list::parse_list;
-use super::table::parse;
-use super::No;
+use crate::list::parse_list;
+use crate::table::parse;
+use crate::No;
 
 /// "All runs end by tick 131,070."
 const LAST_TICK: u32 = 131_070;

@@ -1,8 +1,8 @@
 //! Single questions about demand, work and margin, each by a direct walk.
 
-use super::table::{parse, Task};
-use super::walk::walk;
-use super::No;
+use crate::table::{parse, Task};
+use crate::walk::walk;
+use crate::No;
 
 /// The greatest t or window that may be asked about.
 pub const LAST: u64 = 65_536;

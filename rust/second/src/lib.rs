@@ -21,7 +21,7 @@ pub use bench::{load, replay, tick, End, State};
 pub use demand::{demand, margin, work};
 pub use lines::answer;
 pub use list::list;
-pub use overload::{overload, overload_list};
+pub use overload::{overload, overload_list, overload_size};
 pub use response::{response, Response};
 pub use table::read;
 pub use verdict::{verdict, window, Verdict};

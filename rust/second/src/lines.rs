@@ -1,10 +1,10 @@
 //! One command line to its one answer line.
 
-use super::bench::run;
-use super::table::parse;
-use super::words::{bytes, digest, hex, number, DIGEST};
-use super::{demand, list, load, margin, overload, overload_list, read, replay, response};
-use super::{verdict, window, work, End, No, Response, Verdict};
+use crate::bench::run;
+use crate::table::parse;
+use crate::words::{bytes, digest, hex, number, DIGEST};
+use crate::{demand, list, load, margin, overload, overload_list, overload_size, read, replay, response};
+use crate::{verdict, window, work, End, No, Response, Verdict};
 
 /// The longest buffer that a line may ask for.
 const LONGEST: u64 = 16_777_216;
@@ -35,6 +35,7 @@ fn asked(words: &[&str]) -> Option<Result<String, No>> {
             response(&bytes(table)?, number(task)?, number(frame)?).map(|end| response_text(end, ' '))
         }
         ["responses", table] => responses_line(&bytes(table)?),
+        ["overload-size", table] => overload_size(&bytes(table)?).map(|size| format!("size {size}")),
         ["overload", table, length, place] => {
             let length = number(length).filter(|length| *length <= LONGEST)?;
             overload_line(&bytes(table)?, length as usize, number(place)?)

@@ -1,7 +1,7 @@
 //! A request list read against a table, with refusals 10 and 11.
 
-use super::table::{parse, Table};
-use super::No;
+use crate::table::{parse, Table};
+use crate::No;
 
 /// One request of a list that has been found legal.
 #[derive(Debug, Clone, PartialEq)]

@@ -1,9 +1,9 @@
 //! The overload list: the requests of an overload, and their bytes in a lent buffer.
 
-use super::table::{parse, Table, Task};
-use super::verdict::{judge, Verdict};
-use super::walk::walk;
-use super::No;
+use crate::table::{parse, Table, Task};
+use crate::verdict::{judge, Verdict};
+use crate::walk::walk;
+use crate::No;
 
 /// One request of a list.
 struct Request {
@@ -28,6 +28,12 @@ pub fn overload(table: &[u8], buffer: &mut [u8], place: u64) -> Result<usize, No
     }
     rest[..bytes.len()].copy_from_slice(&bytes);
     Ok(bytes.len())
+}
+
+/// How many bytes the overload list has, so that a buffer of just that length can be lent. It is asked of an overload
+/// list, so a table that isn't overloaded is 13.
+pub fn overload_size(table: &[u8]) -> Result<usize, No> {
+    Ok(overload_list(table)?.len())
 }
 
 /// The overload list as bytes. "The writer has no limit of 128 records; the bench has."

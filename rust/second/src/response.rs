@@ -1,8 +1,8 @@
 //! The fixed-priority response of a frame, by its recurrence.
 
-use super::table::{parse, Frame, Table, Task};
-use super::walk::walk;
-use super::No;
+use crate::table::{parse, Frame, Table, Task};
+use crate::walk::walk;
+use crate::No;
 
 #[derive(Debug, Clone, PartialEq)]
 pub enum Response {

@@ -3,8 +3,8 @@
 //! The walk of one start puts each E into a bucket at the number from which it counts; the
 //! running sum over the buckets is then the sum of that start at each number.
 
-use super::table::{Table, Task};
-use super::walk::{walk, Arrival};
+use crate::table::{Table, Task};
+use crate::walk::{walk, Arrival};
 
 /// The horizons at which a search looks, one after the other; the last is the document's own.
 /// A search that ends early has looked at every number before its answer.

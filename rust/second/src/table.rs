@@ -1,6 +1,6 @@
 //! A table read record by record, with refusals 1 to 6 and the search for a task or frame (9).
 
-use super::No;
+use crate::No;
 
 /// One frame: "E is run time, D the deadline from arrival, P the least time to the next
 /// frame's arrival."

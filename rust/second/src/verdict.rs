@@ -1,9 +1,9 @@
 //! The closing window and the earliest-deadline verdict.
 
-use super::demand::{demand_from, task_demand};
-use super::sums::{demands, works, STAGES};
-use super::table::{parse, Table};
-use super::No;
+use crate::demand::{demand_from, task_demand};
+use crate::sums::{demands, works, STAGES};
+use crate::table::{parse, Table};
+use crate::No;
 
 #[derive(Debug, Clone, PartialEq)]
 pub enum Verdict {

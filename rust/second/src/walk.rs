@@ -1,6 +1,6 @@
 //! The earliest arrivals of a task from a start frame: the one walk that all sums use.
 
-use super::table::{Frame, Task};
+use crate::table::{Frame, Task};
 
 /// One arrival of a walk: its offset from the start, the frame's number, and the frame.
 pub struct Arrival<'a> {

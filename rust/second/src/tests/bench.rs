@@ -1,7 +1,7 @@
 //! The replay bench tick by tick, and ticks of states that no load gives.
 
-use super::super::*;
 use super::{b, request, requests, sporadic, task};
+use crate::*;
 
 fn empty(tick: u32) -> State {
     State {

@@ -1,7 +1,7 @@
 //! The edges that the readings name: zero questions, least margins, widths, long lists.
 
-use super::super::*;
 use super::{a, a_with, b, record, sporadic, task};
+use crate::*;
 
 #[test]
 fn zero_is_answered_with_zero() {
@@ -111,6 +111,7 @@ fn a_list_may_be_longer_than_the_bench_takes() {
     assert_eq!(list_of.len(), 4_193_792);
     assert_eq!(list(&table, &list_of), Err((10, 0)));
     assert_eq!(replay(&table, &list_of), Err((10, 0)));
+    assert_eq!(overload_size(&table), Ok(4_193_792));
     let mut buffer = vec![0xee; list_of.len() + 2];
     assert_eq!(overload(&table, &mut buffer, 1), Ok(4_193_792));
     assert_eq!(buffer[0], 0xee);

@@ -1,8 +1,8 @@
 //! The command lines and their answers.
 
-use super::super::words::{digest, hex, DIGEST};
-use super::super::{answer, overload_list};
 use super::{a, b, f, requests, sporadic};
+use crate::words::{digest, hex, DIGEST};
+use crate::{answer, overload_list};
 
 fn ask(command: &str, table: &[u8], rest: &str) -> String {
     answer(&format!("{command} hex:{} {rest}", hex(table)))
@@ -49,6 +49,9 @@ fn overloads() {
     );
     assert_eq!(ask("overload", &b(), "20 5"), "refused 12 0");
     assert_eq!(ask("overload", &a(), "20 5"), "refused 13 0");
+    assert_eq!(ask("overload-size", &b(), ""), "size 16");
+    assert_eq!(ask("overload-size", &a(), ""), "refused 13 0");
+    assert_eq!(answer("overload-size hex:00"), "refused 1 0");
     assert_eq!(ask("overload-list", &b(), ""), format!("list {whole}"));
     assert_eq!(ask("overload-list", &a(), ""), "refused 13 0");
 }
@@ -110,6 +113,8 @@ fn lines_that_cannot_be_asked() {
         "demand hex: 0 1.5",
         "demand hex: 18446744073709551616 0",
         "overload hex: 16777217 0",
+        "overload-size",
+        "overload-size hex: 0",
         "list hex:",
         "replay hex: 00",
     ];

@@ -5,6 +5,7 @@ mod edges;
 mod lines;
 mod numbers;
 mod refusals;
+mod refused;
 mod sums;
 
 /// One table record: task number, kind, then E, D, P.

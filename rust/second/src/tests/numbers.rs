@@ -1,9 +1,9 @@
 //! Every number of the document's section "Numbers to hold it to".
 
-use super::super::response::values;
-use super::super::table::parse;
-use super::super::*;
 use super::{a, a_with, b, f, k7, record, request, requests, sporadic, task};
+use crate::response::values;
+use crate::table::parse;
+use crate::*;
 
 fn fits(window: u64, margin: i64, at: u64) -> Result<Verdict, No> {
     Ok(Verdict::Fits { window, margin, at })
@@ -44,6 +44,7 @@ fn k4_b_is_overloaded() {
     assert_eq!(verdict(&b()), overloaded(2, -1, &[1, 0]));
     assert_eq!(margin(&b(), 2), Ok(-1));
     assert_eq!(overload_list(&b()), Ok(whole.to_vec()));
+    assert_eq!(overload_size(&b()), Ok(16));
     let mut buffer = [0xee; 20];
     assert_eq!(overload(&b(), &mut buffer, 2), Ok(16));
     assert_eq!(buffer[2..18], whole);
@@ -79,6 +80,7 @@ fn k7_with_a_second_task() {
     assert_eq!(verdict(&table), overloaded(5, -1, &[]));
     let four = requests(&[(0, 0, 0), (1, 0, 0), (0, 1, 2), (0, 2, 3)]);
     assert_eq!(overload_list(&table), Ok(four.clone()));
+    assert_eq!(overload_size(&table), Ok(32));
     assert_eq!(list(&table, &four), Ok(4));
     assert!(matches!(replay(&table, &four), Ok((End::Missed { .. }, _))));
     // "Leaving the late-deadline frame out of an overload list: the four-request list above

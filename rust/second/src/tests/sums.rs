@@ -1,9 +1,9 @@
 //! The running sums held to direct walks, and whole answers to each other, on random tables.
 
-use super::super::sums::{demands, works};
-use super::super::table::parse;
-use super::super::*;
 use super::Source;
+use crate::sums::{demands, works};
+use crate::table::parse;
+use crate::*;
 
 /// Sums of all tasks at one number by direct walks.
 fn by_walks(table: &[u8], t: u64) -> (u64, u64) {
@@ -66,6 +66,7 @@ fn verdicts_are_what_single_questions_give() {
 /// An overload list that the bench takes is legal there and is missed.
 fn overload_holds(table: &[u8]) {
     let bytes = overload_list(table).unwrap();
+    assert_eq!(overload_size(table), Ok(bytes.len()));
     if bytes.len() <= 1_024 {
         assert_eq!(list(table, &bytes), Ok(bytes.len() / 8));
         let (end, _) = replay(table, &bytes).unwrap();

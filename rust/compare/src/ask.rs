@@ -1,11 +1,13 @@
 //! One question asked of both programs, its answers compared and counted.
-use super::cost::Cost;
-use super::counts::{Counts, Section, NUMBERS};
-use super::difference::{shown, Difference};
-use super::first::First;
-use super::purse::Purse;
-use super::rng::Rng;
-use limpidorsa::lines::hex;
+use crate::answer::Answer;
+use crate::cost::Cost;
+use crate::counts::{Counts, Section, NUMBERS};
+use crate::difference::{shown, Difference};
+use crate::first::First;
+use crate::purse::Purse;
+use crate::rng::Rng;
+use limpidorsa::lines::{hex, Line};
+use limpidorsa::status::Status;
 use std::fmt::Debug;
 
 pub type Same<A> = Result<A, Difference>;
@@ -21,16 +23,17 @@ pub struct Ask<'a> {
     pub list: Vec<u8>,
 }
 
-/// The exit status of an answer line: 1 for bad news, 2 for a refusal, 3 where it could not be asked.
-pub fn status_of(answer: &str) -> u8 {
+/// The exit status that goes with an answer line.
+pub fn status_of(answer: &str) -> Status {
     let word = answer.split(' ').next().unwrap_or_default();
     let late = answer.contains(":late/");
     let missed = word == "trace" && answer.contains(" miss ");
     match word {
-        "error" => 3,
-        "refused" => 2,
-        "overloaded" | "undecided" | "late" | "miss" => 1,
-        _ => u8::from(late || missed),
+        "error" => Status::NotAsked,
+        "refused" => Status::Refused,
+        "overloaded" | "undecided" | "late" | "miss" => Status::BadNews,
+        _ if late || missed => Status::BadNews,
+        _ => Status::Fine,
     }
 }
 
@@ -53,27 +56,26 @@ impl Ask<'_> {
         Err(self.difference(what(), shown(first), shown(second)))
     }
 
-    /// Two answers to a command with these numbers. The answer that both gave, or none where both refused.
-    pub fn answers<A: PartialEq + Debug>(
+    /// Two answers to a command with these numbers, every field of them. The answer that both gave, or none where both
+    /// refused.
+    pub fn answers<A: Answer>(
         &mut self,
         command: &'static str,
         numbers: &[u64],
-        first: Result<A, desk::No>,
-        second: Result<A, second::No>,
+        first: A,
+        second: A,
     ) -> Same<Option<A>> {
-        let first = first.map_err(|no| (no.number, no.index));
-        self.equal(
-            || format!("{command} with the numbers {numbers:?}"),
-            &first,
-            &second,
-        )?;
+        let asked = || format!("{command} with the numbers {numbers:?}");
+        self.equal(asked, &first, &second)?;
         self.counts.add(Section::Questions, command, 1);
-        if let Err((number, _)) = first {
-            let known = NUMBERS.get((number as usize).wrapping_sub(1)).copied();
-            self.counts
-                .add(Section::Refusals, known.unwrap_or("of no number"), 1);
+        let number = first.refusal().number as usize;
+        if number == 0 {
+            return Ok(Some(first));
         }
-        Ok(first.ok())
+        let known = NUMBERS.get(number - 1).copied();
+        self.counts
+            .add(Section::Refusals, known.unwrap_or("of no number"), 1);
+        Ok(None)
     }
 
     /// Whether a question can be paid; if not, it is counted as passed over.
@@ -100,16 +102,13 @@ impl Ask<'_> {
 
     /// A whole line. Where a line cannot be asked, what follows `error` is each program's own.
     pub fn line(&mut self, command: &'static str, line: &str) -> Same<()> {
-        let ((first, status), second) = (self.first.line(line), second::answer(line));
-        let errors = first.starts_with("error") && second.starts_with("error");
+        let (Line { text, status }, second) = (self.first.line(line), second::answer(line));
+        let errors = text.starts_with("error") && second.starts_with("error");
         if !errors {
-            self.equal(|| format!("the line: {line}"), &first, &second)?;
+            self.equal(|| format!("the line: {line}"), &text, &second)?;
         }
-        self.equal(
-            || format!("the exit status of: {line}"),
-            &status,
-            &status_of(&second),
-        )?;
+        let asked = || format!("the exit status of: {line}");
+        self.equal(asked, &status, &status_of(&second))?;
         self.counts.add(Section::Lines, command, 1);
         Ok(())
     }

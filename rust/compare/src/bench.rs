@@ -1,28 +1,20 @@
 //! The questions about a table and a request list, and the bench tick by tick, each state whole.
-use super::ask::{Ask, Same};
-use super::cost::TICK;
-use super::counts::{Section, ENDINGS};
-use super::expected;
-use desk::{self, RUNNING};
-use second;
+use crate::ask::{Ask, Same};
+use crate::cost::TICK;
+use crate::counts::{Section, ENDINGS};
+use crate::expected;
+use crate::states::flat_state;
+use desk::raw::{State, RUNNING};
+use desk::LAST_TICK;
 
 /// Every question about the list, and each of its ticks.
 pub fn about_the_list(ask: &mut Ask) -> Same<()> {
-    let (first, said) = (
-        ask.first.list(&ask.table, &ask.list),
-        second::list(&ask.table, &ask.list),
-    );
-    ask.answers("list", &[], first, said)?;
+    let said = expected::listed(second::list(&ask.table, &ask.list));
+    ask.answers("list", &[], ask.first.list(&ask.table, &ask.list), said)?;
     ask.list_line("list")?;
-    let (first, said) = (
-        ask.first.load(&ask.table, &ask.list),
-        second::load(&ask.table, &ask.list),
-    );
-    let held = said
-        .as_ref()
-        .map(|(records, state)| expected::loaded(*records, state))
-        .map_err(|no| *no);
-    ask.answers("load", &[], first, held)?;
+    let said = second::load(&ask.table, &ask.list);
+    let first = ask.first.load(&ask.table, &ask.list);
+    ask.answers("load", &[], first, expected::loaded(&said))?;
     let ticks = said.as_ref().map_or(0, |(_, state)| most_ticks(state));
     replays(ask, ticks)?;
     match said {
@@ -44,12 +36,9 @@ fn replays(ask: &mut Ask, ticks: u64) -> Same<()> {
     if !ask.pays("replay", ticks * TICK / 2) {
         return Ok(());
     }
-    let (first, said) = (
-        ask.first.replay(&ask.table, &ask.list),
-        second::replay(&ask.table, &ask.list),
-    );
-    let ended = ask.answers("replay", &[], first.map(Some), said.map(expected::ending))?;
-    if let Some(ending) = ended.flatten() {
+    let first = ask.first.replay(&ask.table, &ask.list);
+    let said = expected::ending(second::replay(&ask.table, &ask.list));
+    if let Some(ending) = ask.answers("replay", &[], first, said)? {
         ask.counts
             .add(Section::Endings, ENDINGS[usize::from(!ending.missed)], 1);
     }
@@ -63,14 +52,14 @@ fn replays(ask: &mut Ask, ticks: u64) -> Same<()> {
 
 // From the loaded state until it stops, and one tick more, which must change nothing.
 fn all_ticks(ask: &mut Ask, loaded: second::State) -> Same<()> {
-    let mut one = expected::state(&loaded);
+    let mut one = flat_state(&loaded);
     let mut two = loaded;
-    for _ in 0..=131_071 {
+    for _ in 0..=LAST_TICK + 1 {
         let stopped = one.outcome != RUNNING;
         let before = one;
         one = ask.first.tick(one);
         two = second::tick(two);
-        same_state(ask, &before, &one, &expected::state(&two))?;
+        same_state(ask, &before, &one, &flat_state(&two))?;
         ask.counts.add(Section::Compared, "ticks of lists", 1);
         if stopped {
             return ask.equal(|| "a tick of a stopped bench".to_string(), &one, &before);
@@ -84,6 +73,6 @@ fn all_ticks(ask: &mut Ask, loaded: second::State) -> Same<()> {
 }
 
 /// Two states after a tick, every slot of every array.
-pub fn same_state(ask: &Ask, before: &desk::State, one: &desk::State, two: &desk::State) -> Same<()> {
+pub fn same_state(ask: &Ask, before: &State, one: &State, two: &State) -> Same<()> {
     ask.equal(|| format!("tick of the state {before:?}"), one, two)
 }

@@ -1,8 +1,9 @@
 //! The overload list written into buffers of many lengths from many places, each with guard bytes on both
 //! sides.
-use super::ask::{Ask, Same};
-use super::counts::{Section, LONG_LIST};
-use second;
+use crate::ask::{Ask, Same};
+use crate::counts::{Section, LONG_LIST};
+use crate::expected;
+use desk::MOST_LIST_BYTES;
 
 const GUARD: usize = 24;
 
@@ -25,7 +26,7 @@ pub fn overload(ask: &mut Ask) -> Same<Option<Vec<u8>>> {
         }
     }
     lines(ask, list.as_ref().map(Vec::len), once)?;
-    if list.as_ref().is_some_and(|l| l.len() > 1_024) {
+    if list.as_ref().is_some_and(|l| l.len() > MOST_LIST_BYTES) {
         ask.counts.add(Section::Compared, LONG_LIST, 1);
     }
     Ok(list)
@@ -65,7 +66,7 @@ fn into_buffer(ask: &mut Ask, length: usize, place: u64, list: Option<&[u8]>) ->
     let before = ask.rng.bytes(length + 2 * GUARD);
     let (mut one, mut two) = (before.clone(), before.clone());
     let first = ask.first.overload(&ask.table, &mut one, lent.clone(), place);
-    let said = second::overload(&ask.table, &mut two[lent.clone()], place);
+    let said = expected::written(second::overload(&ask.table, &mut two[lent], place));
     let asked = [length as u64, place];
     let written = ask.answers("overload", &asked, first, said)?;
     if let Some(at) = one.iter().zip(&two).position(|(a, b)| a != b) {
@@ -77,13 +78,10 @@ fn into_buffer(ask: &mut Ask, length: usize, place: u64, list: Option<&[u8]>) ->
         );
         return Err(ask.difference(what, format!("{:02x}", one[at]), format!("{:02x}", two[at])));
     }
-    if let (Some(n), Some(list)) = (written, list) {
+    if let (Some(written), Some(list)) = (written, list) {
         let from = GUARD + place as usize;
-        ask.equal(
-            || format!("overload-list, written from {place}"),
-            &&one[from..from + n],
-            &list,
-        )?;
+        let whole = &one[from..from + written.bytes];
+        ask.equal(|| format!("overload-list, written from {place}"), &whole, &list)?;
         ask.counts.add(Section::Compared, "overload lists, whole", 1);
     }
     ask.counts.add(Section::Compared, "buffers with guard bytes", 1);

@@ -1,15 +1,15 @@
 //! One case: a table with its lists, everything about them asked of both programs. It depends on the seed and
 //! the case's number only.
-use super::ask::{Ask, Same};
-use super::cost::Cost;
-use super::counts::{Counts, Section};
-use super::difference::Difference;
-use super::first::First;
-use super::kinds::{LISTS, OWN_LIST, TABLES};
-use super::purse::Purse;
-use super::record::tasks_of;
-use super::rng::Rng;
-use super::{bench, buffers, foreign, oddities, questions};
+use crate::ask::{Ask, Same};
+use crate::cost::Cost;
+use crate::counts::{Counts, Section};
+use crate::difference::Difference;
+use crate::first::First;
+use crate::kinds::{LISTS, OWN_LIST, TABLES};
+use crate::purse::Purse;
+use crate::record::tasks_of;
+use crate::rng::Rng;
+use crate::{bench, buffers, foreign, oddities, questions};
 use std::panic::{catch_unwind, AssertUnwindSafe};
 
 const FOREIGN_STATES: usize = 8;

@@ -1,15 +1,13 @@
 //! What a question will cost, in nanoseconds, guessed from the table: the first program walks frame by frame
 //! and t by t, so that a search that stops late takes minutes on some tables.
-use super::record::{tasks_of, Record};
-use second;
+use crate::record::{tasks_of, Record};
+use desk::HORIZON;
 
 // Measured: a step of a walk, a tick of both benches with their states compared, and what the second program
 // spends on a record in a search to the limit.
 const STEP: f64 = 1.6;
 pub const TICK: u64 = 1_200;
 const RECORD_TO_LIMIT: f64 = 150_000.0;
-
-const LIMIT: u64 = 65_536;
 
 /// The costs of one table; all zero where it is refused.
 #[derive(Default)]
@@ -47,12 +45,12 @@ fn window_end(table: &[u8], tasks: &[Vec<Record>], most: u64) -> u64 {
         let work: u64 = (0..tasks.len() as u64)
             .map(|k| second::work(table, k, w).unwrap_or(0))
             .sum();
-        if work <= w || LIMIT <= w || search(tasks, w) > most as f64 {
+        if work <= w || HORIZON <= w || search(tasks, w) > most as f64 {
             return w;
         }
-        w = work.min(LIMIT);
+        w = work.min(HORIZON);
     }
-    LIMIT
+    HORIZON
 }
 
 // Some t with an overload, tried at the deadlines and at steps that grow, while a search up to there could be
@@ -61,8 +59,8 @@ fn some_overload(table: &[u8], tasks: &[Vec<Record>], most: u64) -> Option<u64> 
     let deadlines = tasks.iter().flatten().map(|r| u64::from(r.d));
     let steps = std::iter::successors(Some(1), |t: &u64| Some(t + 1 + t / 8));
     let mut tries: Vec<u64> = deadlines
-        .chain(steps.take_while(|&t| t < LIMIT))
-        .chain([LIMIT])
+        .chain(steps.take_while(|&t| t < HORIZON))
+        .chain([HORIZON])
         .collect();
     tries.sort_unstable();
     tries.dedup();
@@ -76,7 +74,7 @@ impl Cost {
         let tasks = tasks_of(table);
         let window_end = window_end(table, &tasks, most);
         let overload = some_overload(table, &tasks, most);
-        let verdict_end = window_end.min(overload.unwrap_or(LIMIT));
+        let verdict_end = window_end.min(overload.unwrap_or(HORIZON));
         Cost {
             tasks,
             window_end,
@@ -88,11 +86,11 @@ impl Cost {
     // What the second program spends where it looks at every number up to the limit.
     fn to_limit(&self) -> f64 {
         self.tasks.iter().map(|t| t.len() as f64).sum::<f64>() * RECORD_TO_LIMIT
-            + walk(&self.tasks, LIMIT as f64)
+            + walk(&self.tasks, HORIZON as f64)
     }
 
     pub fn window(&self) -> u64 {
-        let more = if self.window_end < LIMIT {
+        let more = if self.window_end < HORIZON {
             0.0
         } else {
             self.to_limit()
@@ -107,7 +105,7 @@ impl Cost {
 
     /// A demand, a work or a margin at t.
     pub fn number(&self, t: u64) -> u64 {
-        if t > LIMIT {
+        if t > HORIZON {
             0
         } else {
             2 * walk(&self.tasks, t as f64) as u64

@@ -1,4 +1,5 @@
 //! What was compared and what was met, counted, and the report of it.
+use desk::LAST_REFUSAL;
 use std::collections::BTreeMap;
 
 #[derive(Debug, Clone, Copy, PartialEq, Eq, PartialOrd, Ord)]
@@ -18,7 +19,7 @@ pub enum Section {
 use Section::*;
 
 // With a space before the short ones, so that they stand in the order of the numbers.
-pub const NUMBERS: [&str; 13] = [
+pub const NUMBERS: [&str; LAST_REFUSAL as usize] = [
     " 1", " 2", " 3", " 4", " 5", " 6", " 7", " 8", " 9", "10", "11", "12", "13",
 ];
 pub const VERDICTS: [&str; 3] = ["overloaded", "fits", "undecided"];
@@ -26,9 +27,9 @@ pub const RESPONSES: [&str; 2] = ["on time", "late"];
 pub const ENDINGS: [&str; 2] = ["miss", "all met"];
 
 // What is seldom met, and so counted by itself.
-pub const AT_LAST_T: &str = "verdicts overloaded at 65,536";
+pub const AT_LAST_T: &str = "verdicts overloaded at the last t";
 pub const NO_WINDOW: &str = "windows, none";
-pub const LONG_LIST: &str = "overload lists above 128 records";
+pub const LONG_LIST: &str = "overload lists longer than the bench takes";
 
 // What every run must meet, and how one of them is called.
 const MUST: [(Section, &str, &[&str]); 5] = [
@@ -115,7 +116,10 @@ mod tests {
 
     #[test]
     fn empty_counts_have_met_nothing() {
-        assert_eq!(Counts::default().never_met().len(), 3 + 13 + 3 + 2 + 2);
+        assert_eq!(
+            Counts::default().never_met().len(),
+            3 + usize::from(LAST_REFUSAL) + 3 + 2 + 2
+        );
     }
 
     #[test]

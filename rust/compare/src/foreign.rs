@@ -1,11 +1,11 @@
 //! Ticks of states that no load gives: any outcome number, any tick, any numbers in the slots.
-use super::ask::{Ask, Same};
-use super::bench::same_state;
-use super::counts::Section;
-use super::expected;
-use super::rng::Rng;
-use desk::{State, RUNNING, SLOTS};
-use second;
+use crate::ask::{Ask, Same};
+use crate::bench::same_state;
+use crate::counts::Section;
+use crate::rng::Rng;
+use crate::states::{flat_state, held, BLANK};
+use desk::raw::{State, RUNNING};
+use desk::{LAST_ARRIVAL, LAST_TICK, MOST_REQUESTS};
 
 // A number near another one, or at an end of what 32 bits can be.
 fn near(rng: &mut Rng, tick: u32) -> u32 {
@@ -38,11 +38,11 @@ fn blank(rng: &mut Rng) -> State {
         0,
         1,
         70,
-        65_535,
-        131_069,
-        131_070,
-        131_071,
-        131_072,
+        LAST_ARRIVAL,
+        LAST_TICK - 1,
+        LAST_TICK,
+        LAST_TICK + 1,
+        LAST_TICK + 2,
         u32::MAX,
         any,
     ]);
@@ -52,15 +52,11 @@ fn blank(rng: &mut Rng) -> State {
         rng.pick(&[1, 2, 3, 4, 128, 255, any as u8])
     };
     let index = rng.pick(&[0, 0, 5, 127, 128, usize::MAX]);
-    let (left, due, arrive, task) = ([0; SLOTS], [0; SLOTS], [0; SLOTS], [0; SLOTS]);
     State {
         tick,
         outcome,
         index,
-        left,
-        due,
-        arrive,
-        task,
+        ..BLANK
     }
 }
 
@@ -71,7 +67,7 @@ fn state(rng: &mut Rng) -> State {
         rng.pick(&[0, 1, 10, 60, 100]),
         rng.pick(&[1, 3, 255]),
     );
-    for i in 0..SLOTS {
+    for i in 0..MOST_REQUESTS {
         if rng.chance(filled) {
             s.left[i] = rng.pick(&[0, 1, 2, 7, u32::MAX]);
             s.due[i] = deadline(rng, s.tick, calm);
@@ -85,14 +81,14 @@ fn state(rng: &mut Rng) -> State {
 // What the second program makes of a state. It knows no outcome's number and no index of a bench that runs: a state
 // that it hands back as it was is the same in every field.
 fn ticked(before: &State) -> State {
-    let Some(held) = expected::held(before) else {
+    let Some(held) = held(before) else {
         return *before;
     };
     let after = second::tick(held.clone());
     if after == held {
         *before
     } else {
-        expected::state(&after)
+        flat_state(&after)
     }
 }
 

@@ -1,7 +1,8 @@
 //! The kinds of tables and of lists, by name: a run takes them in turn.
-use super::lists::{self, Tasks};
-use super::rng::Rng;
-use super::{damage, special, spoil, tables};
+use crate::lists;
+use crate::pace::Tasks;
+use crate::rng::Rng;
+use crate::{damage, special, spoil, tables};
 
 pub type TableKind = (&'static str, fn(&mut Rng) -> Vec<u8>);
 pub type ListKind = (&'static str, fn(&mut Rng, &Tasks) -> Vec<u8>);

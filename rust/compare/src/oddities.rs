@@ -1,5 +1,5 @@
 //! Command lines that cannot be asked: both programs must say `error`.
-use super::ask::{Ask, Same};
+use crate::ask::{Ask, Same};
 use limpidorsa::lines::hex;
 
 /// One of the ways to write a line wrong, about the case's table.

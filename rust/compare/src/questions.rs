@@ -1,16 +1,16 @@
 //! The questions about a table alone, asked of both programs.
-use super::ask::{Ask, Same};
-use super::cost::Cost;
-use super::counts::{Section, AT_LAST_T, NO_WINDOW, RESPONSES, VERDICTS};
-use super::expected;
-use super::record::tasks_of;
-use desk::OVERLOADED;
-use second;
+use crate::ask::{Ask, Same};
+use crate::cost::Cost;
+use crate::counts::{Section, AT_LAST_T, NO_WINDOW, RESPONSES, VERDICTS};
+use crate::expected;
+use crate::record::tasks_of;
+use desk::raw::OVERLOADED;
+use desk::HORIZON;
 
 /// Every question about the table. False where it was refused.
 pub fn about_the_table(ask: &mut Ask) -> Same<bool> {
-    let (first, said) = (ask.first.read(&ask.table), second::read(&ask.table));
-    let shape = ask.answers("read", &[], first, said.map(expected::shape))?;
+    let said = expected::shape(second::read(&ask.table));
+    let shape = ask.answers("read", &[], ask.first.read(&ask.table), said)?;
     ask.table_line("read", &[])?;
     if shape.is_some() {
         ask.cost = Cost::of(&ask.table, ask.purse.each);
@@ -30,14 +30,14 @@ fn verdict(ask: &mut Ask) -> Same<Vec<u64>> {
     if !ask.pays("verdict", ask.cost.verdict()) {
         return Ok(Vec::new());
     }
-    let (first, said) = (ask.first.verdict(&ask.table), second::verdict(&ask.table));
-    let Some(answer) = ask.answers("verdict", &[], first, said.map(expected::verdict))? else {
+    let said = expected::verdict(second::verdict(&ask.table));
+    let Some(answer) = ask.answers("verdict", &[], ask.first.verdict(&ask.table), said)? else {
         ask.table_line("verdict", &[])?;
         return Ok(Vec::new());
     };
     ask.counts
         .add(Section::Verdicts, VERDICTS[answer.verdict as usize - 1], 1);
-    if answer.verdict == OVERLOADED && answer.t == 65_536 {
+    if answer.verdict == OVERLOADED && answer.t == HORIZON {
         ask.counts.add(Section::Compared, AT_LAST_T, 1);
     }
     if ask.rng.chance(50) && ask.pays("verdict", ask.cost.verdict()) {
@@ -50,8 +50,9 @@ fn window(ask: &mut Ask) -> Same<()> {
     if !ask.pays("window", ask.cost.window()) {
         return Ok(());
     }
-    let (first, said) = (ask.first.window(&ask.table), second::window(&ask.table));
-    if let Some(None) = ask.answers("window", &[], first, said)? {
+    let said = expected::window(second::window(&ask.table));
+    let answer = ask.answers("window", &[], ask.first.window(&ask.table), said)?;
+    if answer.is_some_and(|answer| !answer.closes) {
         ask.counts.add(Section::Compared, NO_WINDOW, 1);
     }
     if ask.rng.chance(50) && ask.pays("window", ask.cost.window()) {
@@ -66,9 +67,9 @@ fn times(ask: &mut Ask, near: &[u64], good: bool) -> Vec<u64> {
         0,
         1,
         ask.rng.below(200),
-        ask.rng.between(0, 65_536),
-        65_536,
-        65_537,
+        ask.rng.between(0, HORIZON),
+        HORIZON,
+        HORIZON + 1,
         u64::MAX,
         ask.rng.next(),
     ];
@@ -90,24 +91,18 @@ fn numbers(ask: &mut Ask, tasks: u64, t: u64) -> Same<()> {
         if !ask.pays("demand", ask.cost.number(t)) || !ask.pays("work", ask.cost.number(t)) {
             continue;
         }
-        let (first, said) = (
-            ask.first.demand(&ask.table, task, t),
-            second::demand(&ask.table, task, t),
-        );
-        ask.answers("demand", &[task, t], first, said)?;
-        let (first, said) = (
-            ask.first.work(&ask.table, task, t),
-            second::work(&ask.table, task, t),
-        );
-        ask.answers("work", &[task, t], first, said)?;
+        let said = expected::amount(second::demand(&ask.table, task, t));
+        ask.answers("demand", &[task, t], ask.first.demand(&ask.table, task, t), said)?;
+        let said = expected::amount(second::work(&ask.table, task, t));
+        ask.answers("work", &[task, t], ask.first.work(&ask.table, task, t), said)?;
         if ask.rng.chance(15) && ask.pays("demand", 2 * ask.cost.number(t)) {
             ask.table_line("demand", &[task, t])?;
             ask.table_line("work", &[task, t])?;
         }
     }
     if ask.pays("margin", 2 * ask.cost.number(t)) {
-        let (first, said) = (ask.first.margin(&ask.table, t), second::margin(&ask.table, t));
-        ask.answers("margin", &[t], first, said)?;
+        let said = expected::margin(second::margin(&ask.table, t));
+        ask.answers("margin", &[t], ask.first.margin(&ask.table, t), said)?;
         ask.table_line("margin", &[t])?;
     }
     Ok(())
@@ -136,12 +131,9 @@ fn response(ask: &mut Ask, task: u64, frame: u64) -> Same<()> {
     if !ask.pays("response", ask.cost.response(task, frame)) {
         return Ok(());
     }
-    let (first, said) = (
-        ask.first.response(&ask.table, task, frame),
-        second::response(&ask.table, task, frame),
-    );
-    let answer = ask.answers("response", &[task, frame], first, said.map(expected::response))?;
-    if let Some(answer) = answer {
+    let first = ask.first.response(&ask.table, task, frame);
+    let said = expected::response(second::response(&ask.table, task, frame));
+    if let Some(answer) = ask.answers("response", &[task, frame], first, said)? {
         ask.counts
             .add(Section::Responses, RESPONSES[usize::from(answer.late)], 1);
     }

@@ -1,8 +1,8 @@
 //! Many cases on two threads. What is counted does not depend on which thread takes which case.
-use super::case;
-use super::counts::Counts;
-use super::difference::Difference;
-use super::first::First;
+use crate::case;
+use crate::counts::Counts;
+use crate::difference::Difference;
+use crate::first::First;
 use std::sync::atomic::{AtomicBool, AtomicU64, Ordering};
 use std::sync::Mutex;
 use std::time::{Duration, Instant};

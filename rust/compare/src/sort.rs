@@ -1,6 +1,7 @@
 //! What a kind of good table is like, and the one function that builds a random table of it.
-use super::record::{table_of, Record};
-use super::rng::Rng;
+use crate::record::{table_of, Record};
+use crate::rng::Rng;
+use desk::MOST_RECORDS;
 
 /// Where a frame's D lies.
 #[derive(Clone, Copy)]
@@ -38,7 +39,7 @@ pub const SMALL: Sort = Sort {
 };
 
 fn field(x: u64) -> u16 {
-    x.clamp(1, 65_535) as u16
+    x.clamp(1, u64::from(u16::MAX)) as u16
 }
 
 fn deadline(rng: &mut Rng, rule: Deadline, e: u64, p: u64) -> u64 {
@@ -79,7 +80,7 @@ fn records(rng: &mut Rng, sort: &Sort) -> Vec<Record> {
     let mut all: Vec<Record> = Vec::new();
     for task in 0..tasks {
         let kind = rng.pick(sort.kinds);
-        let room = 64 - all.len() as u64 - (tasks - task - 1);
+        let room = MOST_RECORDS as u64 - all.len() as u64 - (tasks - task - 1);
         let frames = if kind == 1 {
             1
         } else {
@@ -98,7 +99,9 @@ fn records(rng: &mut Rng, sort: &Sort) -> Vec<Record> {
     all
 }
 
-/// A table of the sort.
-pub fn build(rng: &mut Rng, sort: Sort) -> Vec<u8> {
-    table_of(&records(rng, &sort))
+impl Sort {
+    /// A table of the sort.
+    pub fn build(&self, rng: &mut Rng) -> Vec<u8> {
+        table_of(&records(rng, self))
+    }
 }

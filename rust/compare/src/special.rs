@@ -1,11 +1,10 @@
 //! Tables that no rule of thumb builds: values at the edges, the document's own tables, and bytes of no
 //! sense.
-use super::record::{table_of, Record};
-use super::rng::Rng;
+use crate::record::{table_of, Record};
+use crate::rng::Rng;
+use desk::HORIZON;
 
 const EDGES: [u16; 10] = [1, 2, 21_846, 32_767, 32_768, 32_769, 65_533, 65_534, 65_535, 3];
-
-const LAST_T: u32 = 65_536;
 
 /// E, D and P each at an edge of what they can be.
 pub fn edges(rng: &mut Rng) -> Vec<u8> {
@@ -32,9 +31,9 @@ pub fn edges(rng: &mut Rng) -> Vec<u8> {
 /// none; before that it is none, since P is at most E.
 pub fn at_the_last_t(rng: &mut Rng) -> Vec<u8> {
     let due = rng.between(2, 8) as u16;
-    let share = (LAST_T / u32::from(due)) as u16;
+    let share = (HORIZON / u64::from(due)) as u16;
     let p = rng.between(2_000, u64::from(share)) as u16;
-    let d = (LAST_T - u32::from(due - 1) * u32::from(p)) as u16;
+    let d = (HORIZON - u64::from(due - 1) * u64::from(p)) as u16;
     let e = share + rng.between(0, 2) as u16;
     let (task, kind) = (0, 1);
     table_of(&[Record { task, kind, e, d, p }])

@@ -1,7 +1,14 @@
 //! A legal list spoilt: each way in which refusals 10 and 11 can show, at any record.
-use super::lists::{any_legal, Tasks};
-use super::record::{list_of, Request};
-use super::rng::Rng;
+#![allow(
+    clippy::ptr_arg,
+    reason = "some faults put records in, and all are of one type"
+)]
+
+use crate::lists::any_legal;
+use crate::pace::Tasks;
+use crate::record::{list_of, Request};
+use crate::rng::Rng;
+use desk::{LAST_ARRIVAL, MOST_LIST_BYTES};
 
 type Fault = fn(&mut Rng, &Tasks, &mut Vec<Request>, usize);
 
@@ -20,7 +27,7 @@ fn unknown_frame(rng: &mut Rng, tasks: &Tasks, all: &mut Vec<Request>, i: usize)
 }
 
 fn arrival_too_large(rng: &mut Rng, _: &Tasks, all: &mut Vec<Request>, i: usize) {
-    all[i].arrival = rng.pick(&[65_536, 65_537, 1 << 24, u32::MAX]);
+    all[i].arrival = rng.pick(&[LAST_ARRIVAL + 1, LAST_ARRIVAL + 2, 1 << 24, u32::MAX]);
 }
 
 fn order_broken(_: &mut Rng, _: &Tasks, all: &mut Vec<Request>, i: usize) {
@@ -86,14 +93,14 @@ pub fn two_faults(rng: &mut Rng, tasks: &Tasks) -> Vec<u8> {
     spoilt(rng, tasks, 2)
 }
 
-/// Bytes too few or too many for whole records, or more than 128 records; faults in them or not.
+/// Bytes too few or too many for whole records, or more records than a list may have; faults in them or not.
 pub fn wrong_length(rng: &mut Rng, tasks: &Tasks) -> Vec<u8> {
     let faults = rng.pick(&[0, 0, 1]);
     let mut list = spoilt(rng, tasks, faults);
     match rng.below(3) {
         0 => list.truncate(list.len().saturating_sub(rng.between(1, 7) as usize)),
         1 => list.extend(rng.bytes(5)),
-        _ => list.resize(rng.pick(&[1_025, 1_032, 1_040, 2_048]), 0),
+        _ => list.resize(MOST_LIST_BYTES + rng.pick(&[1, 8, 16, 1_024]), 0),
     }
     list
 }

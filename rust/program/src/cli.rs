@@ -1,57 +1,34 @@
-//! The command line: the first word is the command, and the rest is handed to what answers it.
-use crate::ask::{self, expect_words};
-use crate::input::Input;
-use crate::lines::{FINE, NOT_ASKED};
+//! The command line: its words become a command, and the command is carried out.
+use crate::command::Command;
 use crate::output::{complain, shown, Out};
-use crate::{batch, explain, help, judge, steps};
+use crate::status::Status;
+use crate::{ask, batch, explain, help, judge, steps};
 use std::ffi::OsString;
 
+const VERSION: &str = concat!("limpidorsa ", env!("CARGO_PKG_VERSION"));
+
 /// Answers the arguments, without the program's name, and gives the exit status.
-pub fn run(arguments: impl Iterator<Item = OsString>) -> u8 {
+pub fn run(arguments: impl Iterator<Item = OsString>) -> Status {
     let mut out = Out::new();
-    let status = texts(arguments)
-        .and_then(|words| answer(&words, &mut out))
-        .unwrap_or_else(|why| {
+    let status = match texts(arguments).and_then(|words| Command::of_call(&words)) {
+        Ok(command) => carry_out(&command, &mut out),
+        Err(why) => {
             complain(&why);
-            NOT_ASKED
-        });
+            Status::NotAsked
+        }
+    };
     out.end(status)
 }
 
-/// Whether the command is for people, and so not for a line of a batch.
-pub fn is_for_people(command: &str) -> bool {
-    matches!(command, "judge" | "steps" | "explain" | "batch") || asks_help(command) || asks_version(command)
-}
-
-fn asks_help(word: &str) -> bool {
-    matches!(word, "help" | "-h" | "--help")
-}
-
-fn asks_version(word: &str) -> bool {
-    matches!(word, "version" | "--version")
-}
-
-fn answer(words: &[String], out: &mut Out) -> Result<u8, String> {
-    let Some((command, rest)) = words.split_first() else {
-        return Err(help::USAGE.into());
-    };
-    if asks_help(command) || words.iter().any(|w| w == "--help") {
-        out.line(&help::text());
-        return Ok(FINE);
-    }
-    match command.as_str() {
-        "judge" => judge::judge(rest, out),
-        "steps" => steps::steps(rest, out),
-        "explain" => explain::explain(rest, out),
-        "batch" => expect_words("batch", &[], rest).map(|()| batch::batch(out)),
-        word if asks_version(word) => {
-            out.line(concat!("limpidorsa ", env!("CARGO_PKG_VERSION")));
-            Ok(FINE)
-        }
-        _ => ask::answer(words, &mut Input::of_call()).map(|(text, status)| {
-            out.line(&text);
-            status
-        }),
+fn carry_out(command: &Command, out: &mut Out) -> Status {
+    match command {
+        Command::Judge { files } => judge::judge(files, out),
+        Command::Steps { table, list } => out.say(&steps::steps(table, list)),
+        Command::Explain { meaning } => out.say(&explain::explained(meaning)),
+        Command::Batch => batch::batch(out),
+        Command::Help => out.say(&help::help()),
+        Command::Version => out.say(&crate::lines::Line::fine(VERSION.into())),
+        Command::Ask(question) => out.say(&ask::answer(question)),
     }
 }
 

@@ -3,8 +3,8 @@ use crate::output::shown;
 use std::fs::File;
 use std::io::{self, ErrorKind, Read};
 
-/// No more of a file than this is read. A table above 512 bytes and a list above 1,024 are refused by their length
-/// alone, 1 or 10, whatever they hold; so reading on would change no answer.
+/// No more of a file than this is read. Longer tables and lists are refused by their length alone, 1 or 10, whatever
+/// they hold; so reading on would change no answer.
 pub const MOST: u64 = 1 << 20;
 
 // What to do, of a table and of a list, in a call and in a batch.

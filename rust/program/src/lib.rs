@@ -1,18 +1,23 @@
-//! The desk at the command line: `cli` answers the program's arguments.
-pub mod ask;
+//! The desk at the command line: `cli` answers the program's arguments, and `batch` a line of them.
+mod arguments;
+mod ask;
 pub mod batch;
-pub mod bench;
 pub mod cli;
-pub mod explain;
-pub mod help;
-pub mod input;
-pub mod judge;
+mod command;
+mod evidence;
+mod explain;
+mod help;
+mod input;
+mod judge;
 pub mod lines;
-pub mod output;
-pub mod paragraph;
-pub mod progress;
-pub mod records;
-pub mod refusals;
-pub mod refused;
-pub mod steps;
-pub mod trace;
+mod output;
+mod paragraph;
+mod progress;
+mod question;
+pub mod questions;
+mod records;
+mod refused;
+pub mod split;
+pub mod status;
+mod steps;
+mod trace;

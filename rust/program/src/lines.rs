@@ -1,83 +1,109 @@
 //! The answer lines, each with its exit status.
-use desk::{Ending, No, Response, Shape, Verdict, FITS, OVERLOADED};
-
-pub const FINE: u8 = 0;
-pub const BAD_NEWS: u8 = 1;
-pub const REFUSED: u8 = 2;
-pub const NOT_ASKED: u8 = 3;
+use crate::status::Status;
+use desk::{Ending, Refusal, Response, Shape, Verdict};
 
 /// An answer line, with no line feed, and the exit status that goes with it.
-pub type Line = (String, u8);
+#[derive(Debug, Clone, PartialEq, Eq)]
+pub struct Line {
+    pub text: String,
+    pub status: Status,
+}
+
+impl Line {
+    /// An answer that is no bad news.
+    pub fn fine(text: String) -> Line {
+        Line {
+            text,
+            status: Status::Fine,
+        }
+    }
+
+    pub fn bad_news(text: String) -> Line {
+        Line {
+            text,
+            status: Status::BadNews,
+        }
+    }
+
+    /// For a line of a batch that could not be asked.
+    pub fn error(why: &str) -> Line {
+        Line {
+            text: format!("error {why}"),
+            status: Status::NotAsked,
+        }
+    }
+}
 
 /// What is said of an answer, or the refusal.
-pub fn unless_refused<A>(answer: Result<A, No>, say: impl FnOnce(A) -> Line) -> Line {
+pub fn unless_refused<A>(answer: Result<A, Refusal>, say: impl FnOnce(A) -> Line) -> Line {
     answer.map_or_else(refusal, say)
 }
 
-pub fn refusal(no: No) -> Line {
-    (format!("refused {} {}", no.number, no.index), REFUSED)
-}
-
-/// An answer that is no bad news.
-pub fn fine(text: String) -> Line {
-    (text, FINE)
+pub fn refusal(no: Refusal) -> Line {
+    Line {
+        text: format!("refused {} {}", no.number, no.index),
+        status: Status::Refused,
+    }
 }
 
 pub fn shape(s: Shape) -> Line {
-    fine(format!("table tasks={} records={}", s.tasks, s.records))
+    Line::fine(format!("table tasks={} records={}", s.tasks, s.records))
 }
 
 pub fn window(w: Option<u64>) -> Line {
-    fine(match w {
+    Line::fine(match w {
         Some(w) => format!("window {w}"),
         None => "window none".into(),
     })
 }
 
 pub fn verdict(v: Verdict) -> Line {
-    match v.verdict {
-        OVERLOADED => {
-            let starts = v.starts.map(|s| s.to_string()).join(",");
-            (
-                format!("overloaded t={} margin={} starts={starts}", v.t, v.margin),
-                BAD_NEWS,
-            )
+    match v {
+        Verdict::Overloaded { t, margin, starts } => {
+            let starts = starts.map(|s| s.to_string()).join(",");
+            Line::bad_news(format!("overloaded t={t} margin={margin} starts={starts}"))
         }
-        FITS => fine(format!("fits window={} margin={} at={}", v.window, v.margin, v.t)),
-        _ => ("undecided".into(), BAD_NEWS),
+        Verdict::Fits { window, margin, t } => {
+            Line::fine(format!("fits window={window} margin={margin} at={t}"))
+        }
+        Verdict::Undecided => Line::bad_news("undecided".into()),
     }
 }
 
 pub fn response(r: Response) -> Line {
-    if r.late {
-        (format!("late value={} round={}", r.value, r.round), BAD_NEWS)
-    } else {
-        fine(format!("on-time value={} rounds={}", r.value, r.round))
+    match r {
+        Response::OnTime { value, rounds } => Line::fine(format!("on-time value={value} rounds={rounds}")),
+        Response::Late { value, round } => Line::bad_news(format!("late value={value} round={round}")),
     }
 }
 
 /// The responses of frames, given as (task, frame, response), on one line.
 pub fn responses(all: Vec<(u64, u64, Response)>) -> Line {
     let parts = all.into_iter().map(|(task, frame, r)| {
-        let (text, status) = response(r);
+        let Line { text, status } = response(r);
         (format!("{task}.{frame}:{}", text.replace(' ', "/")), status)
     });
-    let (texts, statuses): (Vec<String>, Vec<u8>) = parts.unzip();
-    (texts.join(" "), statuses.into_iter().max().unwrap_or(FINE))
+    let (texts, statuses): (Vec<String>, Vec<Status>) = parts.unzip();
+    Line {
+        text: texts.join(" "),
+        status: statuses.into_iter().max().unwrap_or(Status::Fine),
+    }
 }
 
 pub fn ending(e: Ending) -> Line {
-    if e.missed {
-        (format!("miss tick={} record={}", e.tick, e.index), BAD_NEWS)
-    } else {
-        fine(format!("all-met tick={}", e.tick))
+    match e {
+        Ending::Missed { tick, record } => Line::bad_news(format!("miss tick={tick} record={record}")),
+        Ending::AllMet { tick } => Line::fine(format!("all-met tick={tick}")),
     }
 }
 
 /// A run's digest before its ending.
 pub fn trace((digest, e): (u64, Ending)) -> Line {
-    let (text, status) = ending(e);
-    (format!("trace {digest:016x} {text}"), status)
+    let Line { text, status } = ending(e);
+    Line {
+        text: format!("trace {digest:016x} {text}"),
+        status,
+    }
 }
 
 /// Bytes as hex digits.

@@ -2,5 +2,5 @@
 use std::process::ExitCode;
 
 fn main() -> ExitCode {
-    ExitCode::from(limpidorsa::cli::run(std::env::args_os().skip(1)))
+    limpidorsa::cli::run(std::env::args_os().skip(1)).into()
 }

@@ -1,5 +1,7 @@
 //! What the program says: standard output line by line, complaints on standard error, and words shown in messages.
-use crate::lines::NOT_ASKED;
+use crate::lines::Line;
+use crate::status::Status;
+use desk::grouped;
 use std::io::{self, ErrorKind, Write};
 
 /// Standard output. A reader that has gone away (`limpidorsa help | head -1`) is no error: nothing more is said.
@@ -20,19 +22,25 @@ impl Out {
         }
     }
 
+    /// Says an answer line, and hands back its exit status.
+    pub fn say(&mut self, line: &Line) -> Status {
+        self.line(&line.text);
+        line.status
+    }
+
     /// Whether more can be said.
     pub fn is_open(&self) -> bool {
         self.stopped.is_none()
     }
 
     /// The exit status, once all is said.
-    pub fn end(self, status: u8) -> u8 {
+    pub fn end(self, status: Status) -> Status {
         match self.stopped {
             Some(e) if e.kind() != ErrorKind::BrokenPipe => {
                 complain(&format!(
                     "the answer could not be written ({e}); free some space or name another place"
                 ));
-                NOT_ASKED
+                Status::NotAsked
             }
             _ => status,
         }
@@ -73,17 +81,8 @@ pub fn count(many: u64, what: &str) -> String {
     format!("{} {what}{s}", grouped(many))
 }
 
-/// A number as people read it, with a comma before each three digits.
-pub fn grouped(number: u64) -> String {
-    let digits = number.to_string();
-    let mut text = String::new();
-    for (i, digit) in digits.chars().enumerate() {
-        if i > 0 && (digits.len() - i).is_multiple_of(3) {
-            text.push(',');
-        }
-        text.push(digit);
-    }
-    text
+pub fn ticks(many: u64) -> String {
+    count(many, "tick")
 }
 
 /// The text in lines of at most 80 columns, broken at blanks.
@@ -122,10 +121,8 @@ mod tests {
     }
 
     #[test]
-    fn numbers_as_people_read_them() {
-        assert_eq!(grouped(7), "7");
-        assert_eq!(grouped(65536), "65,536");
-        assert_eq!(grouped(1234567), "1,234,567");
+    fn counts_as_people_read_them() {
+        assert_eq!(count(1234567, "tick"), "1,234,567 ticks");
         assert_eq!(count(1, "tick"), "1 tick");
         assert_eq!(count(0, "tick"), "0 ticks");
     }

@@ -1,48 +1,37 @@
-//! A refusal for people: what its number means, and what stands at the record that it points at.
+//! A refusal for people: what stands at the record that it points at.
 use crate::input::MOST;
 use crate::output::count;
 use crate::records::{self, Record, Request, SIZE};
-use crate::refusals;
-use desk::{No, SLOTS};
-
-/// The refusal of a table, on one line.
-pub fn line(no: No) -> String {
-    let place = match no.number {
-        1 => String::new(),
-        _ => format!(" at record {}", no.index),
-    };
-    format!("refused {}{place}: {}", no.number, refusals::when(no.number))
-}
+use desk::{refusals, Index, Refusal, MOST_REQUESTS};
 
 /// What stands there, and where an example is.
-pub fn found(no: No, table: &[u8], list: &[u8]) -> String {
-    let what = match no.number {
-        10 | 11 => in_list(no, list),
-        _ => in_table(no, table),
+pub fn found(no: Refusal, table: &[u8], list: &[u8]) -> String {
+    let what = match refusals::of(no.number).map(|meaning| meaning.index) {
+        Some(Index::InList) => in_list(no, list),
+        Some(Index::InTable | Index::FirstInTable) => in_table(no, table),
+        Some(Index::Zero) | None => length("table", table),
     };
     format!("{what} 'limpidorsa explain {}' has an example.", no.number)
 }
 
-fn in_table(no: No, table: &[u8]) -> String {
+fn in_table(no: Refusal, table: &[u8]) -> String {
     let records = records::of_table(table);
-    match records.get(no.index) {
-        Some(record) if no.number != 1 => {
-            // What the record is held against. All before it are good, so the one before has its task's kind and P.
-            let beside = match no.number {
-                2 => no.index.checked_sub(1),
-                3 | 6 if record.frame > 0 => Some(no.index - 1),
-                _ => None,
-            };
-            at_record("table", no.index, table, beside, |i| table_record(&records[i]))
-        }
-        _ => length("table", table),
-    }
+    let Some(record) = records.get(no.index) else {
+        return length("table", table);
+    };
+    // What the record is held against. All before it are good, so the one before has its task's kind and P.
+    let beside = match no.number {
+        2 => no.index.checked_sub(1),
+        3 | 6 if record.frame > 0 => Some(no.index - 1),
+        _ => None,
+    };
+    at_record("table", no.index, table, beside, |i| table_record(&records[i]))
 }
 
-fn in_list(no: No, list: &[u8]) -> String {
+fn in_list(no: Refusal, list: &[u8]) -> String {
     let requests = records::of_list(list);
     // The length is tested before any record.
-    let wrong_length = !list.len().is_multiple_of(SIZE) || requests.len() > SLOTS;
+    let wrong_length = !list.len().is_multiple_of(SIZE) || requests.len() > MOST_REQUESTS;
     match requests.get(no.index) {
         Some(request) if !wrong_length => {
             let beside = match no.number {
@@ -57,12 +46,13 @@ fn in_list(no: No, list: &[u8]) -> String {
 
 // A longer file is not read to its end.
 fn length(whose: &str, bytes: &[u8]) -> String {
+    let many = count(bytes.len() as u64, "byte");
     let or_more = if bytes.len() as u64 >= MOST {
         " or more"
     } else {
         ""
     };
-    format!("The {whose} has {}{or_more}.", count(bytes.len() as u64, "byte"))
+    format!("The {whose} has {many}{or_more}.")
 }
 
 // The record's bytes and what they say, and what the record beside which it is wrong says.
@@ -74,14 +64,11 @@ fn at_record(
     say: impl Fn(usize) -> String,
 ) -> String {
     let from = index * SIZE;
-    let digits: Vec<String> = bytes[from..from + SIZE]
-        .iter()
-        .map(|b| format!("{b:02x}"))
-        .collect();
+    let bytes = bytes[from..from + SIZE].iter().map(|b| format!("{b:02x}"));
+    let digits = bytes.collect::<Vec<_>>().join(" ");
     let before = beside.map_or(String::new(), |i| format!(" Before it, record {i}: {}.", say(i)));
     format!(
-        "Record {index} of the {whose} (counted from 0) begins at byte {from} and is {}: {}.{before}",
-        digits.join(" "),
+        "Record {index} of the {whose} (counted from 0) begins at byte {from} and is {digits}: {}.{before}",
         say(index)
     )
 }

@@ -1,29 +1,24 @@
 //! `limpidorsa steps TABLE LIST`: the replay for people, runs of equal ticks joined.
-use crate::ask::expect_words;
-use crate::bench;
-use crate::input::Input;
-use crate::lines;
-use crate::output::{count, grouped, wrapped, Out};
+use crate::lines::{self, Line};
+use crate::output::{count, wrapped};
 use crate::records::{self, Request};
-use crate::refusals;
 use crate::refused;
-use desk::{self, State};
+use desk::{grouped, Bench, Ending, Refusal};
 
-pub fn steps(words: &[String], out: &mut Out) -> Result<u8, String> {
-    expect_words("steps", &["TABLE", "LIST"], words)?;
-    let mut input = Input::of_call();
-    let table = input.bytes(&words[0])?;
-    let list = input.bytes(&words[1])?;
-    let (text, status) = match desk::load(&table, &list) {
-        Err(no) => {
-            let (line, status) = lines::refusal(no);
-            let (when, found) = (refusals::when(no.number), refused::found(no, &table, &list));
-            (wrapped(&format!("{line}: {when}. {found}")), status)
-        }
-        Ok(loaded) => stepped(loaded.state, &records::of_list(&list)),
-    };
-    out.line(&text);
-    Ok(status)
+pub fn steps(table: &[u8], list: &[u8]) -> Line {
+    match desk::load(table, list) {
+        Err(no) => refused_steps(no, table, list),
+        Ok(bench) => stepped(bench, &records::of_list(list)),
+    }
+}
+
+fn refused_steps(no: Refusal, table: &[u8], list: &[u8]) -> Line {
+    let Line { text, status } = lines::refusal(no);
+    let (when, found) = (no.when(), refused::found(no, table, list));
+    Line {
+        text: wrapped(&format!("{text}: {when}. {found}")),
+        status,
+    }
 }
 
 // Ticks in a row that go to one record, or are idle.
@@ -35,60 +30,46 @@ struct Run {
 }
 
 // A line for each run, and one for the end.
-fn stepped(loaded: State, requests: &[Request]) -> (String, u8) {
+fn stepped(bench: Bench, requests: &[Request]) -> Line {
     let mut runs: Vec<Run> = Vec::new();
-    let stopped = bench::run(loaded, |before, after| {
-        join(&mut runs, before, after, requests.len())
-    });
-    let last = span(stopped.tick, stopped.tick);
-    let width = runs
+    let (stopped, ending) = bench.run(|before, after| join(&mut runs, before, after));
+    let mut rows: Vec<(String, String)> = Vec::new();
+    rows.extend(
+        runs.iter()
+            .map(|run| (span(run.from, run.to), run.what(requests))),
+    );
+    rows.push((
+        span(stopped.now(), stopped.now()),
+        ended(&stopped, ending, requests),
+    ));
+    let width = rows.iter().map(|(ticks, _)| ticks.len()).max().unwrap_or(0);
+    let lines = rows
         .iter()
-        .map(|run| span(run.from, run.to).len())
-        .fold(last.len(), usize::max);
-    let mut text = String::new();
-    for run in &runs {
-        text.push_str(&format!(
-            "{:<width$}   {}\n",
-            span(run.from, run.to),
-            run.what(requests)
-        ));
+        .map(|(ticks, what)| format!("{ticks:<width$}   {what}"));
+    Line {
+        text: lines.collect::<Vec<_>>().join("\n"),
+        status: lines::ending(ending).status,
     }
-    let ending = bench::ending(&stopped);
-    let (_, status) = lines::ending(ending);
-    let end = if ending.missed {
-        let due = grouped(stopped.due[ending.index].into());
-        let left = count(stopped.left[ending.index].into(), "unit");
-        format!(
-            "miss: {} was due at {due} and has {left} left",
-            named(ending.index, requests)
-        )
-    } else {
-        "all met".into()
-    };
-    text.push_str(&format!("{last:<width$}   {end}"));
-    (text, status)
 }
 
 // Takes one tick more into the last run, or begins a new one.
-fn join(runs: &mut Vec<Run>, before: &State, after: &State, records: usize) {
-    let record = (0..records).find(|&i| after.left[i] < before.left[i]);
-    let left = record.map_or(0, |i| after.left[i]);
+fn join(runs: &mut Vec<Run>, before: &Bench, after: &Bench) {
+    let mut amounts = before.left().iter().zip(after.left());
+    let record = amounts.position(|(before, after)| after < before);
+    let (tick, left) = (before.now(), record.map_or(0, |i| after.left()[i]));
     match runs.last_mut() {
-        Some(run) if run.record == record => {
-            run.to = before.tick;
-            run.left = left;
-        }
+        Some(run) if run.record == record => (run.to, run.left) = (tick, left),
         _ => runs.push(Run {
             record,
-            from: before.tick,
-            to: before.tick,
+            from: tick,
+            to: tick,
             left,
         }),
     }
 }
 
 fn span(from: u32, to: u32) -> String {
-    let [first, last] = [from, to].map(|tick| grouped(tick.into()));
+    let [first, last] = [from, to].map(grouped);
     if from == to {
         format!("tick {first}")
     } else {
@@ -101,6 +82,18 @@ fn named(record: usize, requests: &[Request]) -> String {
     format!("task {} frame {} (record {record})", r.task, r.frame)
 }
 
+fn ended(stopped: &Bench, ending: Ending, requests: &[Request]) -> String {
+    match ending {
+        Ending::AllMet { .. } => "all met".into(),
+        Ending::Missed { record, .. } => {
+            let due = grouped(stopped.due()[record]);
+            let left = count(stopped.left()[record].into(), "unit");
+            let named = named(record, requests);
+            format!("miss: {named} was due at {due} and has {left} left")
+        }
+    }
+}
+
 impl Run {
     fn what(&self, requests: &[Request]) -> String {
         let Some(record) = self.record else {
@@ -109,7 +102,7 @@ impl Run {
         let units = count((self.to - self.from + 1).into(), "unit");
         let rest = match self.left {
             0 => "done".into(),
-            left => format!("{} left", grouped(left.into())),
+            left => format!("{} left", grouped(left)),
         };
         format!("{}, {units}, {rest}", named(record, requests))
     }

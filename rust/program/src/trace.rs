@@ -1,6 +1,5 @@
 //! A digest of every state of a replay: two programs that agree on it agree on every state.
-use crate::bench;
-use desk::{self, Ending, No, State};
+use desk::{Bench, Ending, Refusal};
 
 // FNV-1a, 64 bits.
 struct Digest(u64);
@@ -17,22 +16,21 @@ impl Digest {
     }
 
     // Takes in a state: its tick, and what each record of the list has left.
-    fn state(&mut self, state: &State, records: usize) {
-        self.bytes(&state.tick.to_le_bytes());
-        state.left[..records]
-            .iter()
-            .for_each(|left| self.bytes(&left.to_le_bytes()));
+    fn state(&mut self, bench: &Bench) {
+        self.bytes(&bench.now().to_le_bytes());
+        let left = bench.left().iter();
+        left.for_each(|left| self.bytes(&left.to_le_bytes()));
     }
 }
 
 /// The digest of the states at ticks 0 to the end's tick, and the ending. The state with which the bench stops has the
 /// tick and the amounts of the one before it, and is not taken in again.
-pub fn trace(table: &[u8], list: &[u8]) -> Result<(u64, Ending), No> {
-    let loaded = desk::load(table, list)?;
+pub fn trace(table: &[u8], list: &[u8]) -> Result<(u64, Ending), Refusal> {
+    let bench = desk::load(table, list)?;
     let mut digest = Digest::new();
-    digest.state(&loaded.state, loaded.records);
-    let stopped = bench::run(loaded.state, |_, after| digest.state(after, loaded.records));
-    Ok((digest.0, bench::ending(&stopped)))
+    digest.state(&bench);
+    let (_, ending) = bench.run(|_, after| digest.state(after));
+    Ok((digest.0, ending))
 }
 
 #[cfg(test)]

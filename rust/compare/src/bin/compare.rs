@@ -1,7 +1,6 @@
 //! The program that compares the proved library with the second program on random tables and lists.
 use compare::first::Proved;
 use compare::run::{alone, run, Found, Until};
-use limpidorsa::batch;
 use std::process::ExitCode;
 use std::time::Instant;
 
@@ -58,13 +57,10 @@ fn options(words: &[String]) -> Result<Option<Options>, String> {
 }
 
 fn go(options: &Options) -> ExitCode {
-    let first = Proved {
-        line: batch::answer_line,
-    };
     let start = Instant::now();
     let (found, whole) = match options.which {
-        Which::Many(until) => (run(&first, options.seed, until), true),
-        Which::Alone(case) => (alone(&first, options.seed, case), false),
+        Which::Many(until) => (run(&Proved, options.seed, until), true),
+        Which::Alone(case) => (alone(&Proved, options.seed, case), false),
     };
     print!("{}", found.counts.report());
     let (seed, seconds) = (options.seed, start.elapsed().as_secs());

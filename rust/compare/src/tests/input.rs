@@ -3,7 +3,7 @@
 use crate::kinds::{LISTS, TABLES};
 use crate::record::tasks_of;
 use crate::rng::Rng;
-use second;
+use desk::{MOST_LIST_BYTES, MOST_TABLE_BYTES, MOST_TASKS};
 
 const GOOD_TABLES: usize = 13;
 const LEGAL_LISTS: usize = 7;
@@ -46,22 +46,25 @@ fn the_limits_are_met_exactly() {
     let tables: Vec<Vec<u8>> = (0..100)
         .map(|case| at_the_limits(&mut Rng::new(7, case)))
         .collect();
-    assert!(tables.iter().any(|t| t.len() == 64 * 8));
-    assert!(tables.iter().any(|t| tasks_of(t).len() == 16));
+    assert!(tables.iter().any(|t| t.len() == MOST_TABLE_BYTES));
+    assert!(tables.iter().any(|t| tasks_of(t).len() == MOST_TASKS));
     assert!(tables
         .iter()
         .any(|t| tasks_of(t).iter().any(|frames| frames.len() == 16)));
 }
 
 #[test]
-fn a_full_list_has_128_records() {
+fn a_full_list_has_as_many_records_as_there_can_be() {
     let full = LISTS
         .iter()
         .find(|kind| kind.0 == "full")
         .expect("the kind is there")
         .1;
     let table = TABLES[0].1(&mut Rng::new(8, 0));
-    assert_eq!(full(&mut Rng::new(8, 1), &tasks_of(&table)).len(), 1_024);
+    assert_eq!(
+        full(&mut Rng::new(8, 1), &tasks_of(&table)).len(),
+        MOST_LIST_BYTES
+    );
 }
 
 #[test]

@@ -3,3 +3,4 @@
 mod input;
 mod runs;
 mod slips;
+mod wrong;

@@ -1,5 +1,5 @@
 //! A run is the same whatever its threads do, and a run that meets too little says so.
-use super::slips::{Slip, Wrong};
+use super::wrong::{Slip, Wrong};
 use crate::counts::{Counts, Section};
 use crate::run::{alone, run, Until};
 

@@ -1,88 +1,15 @@
 //! The comparison is held to a first program that is wrong in one thing: it must stop there and say so.
-use crate::ask::status_of;
+use super::wrong::{Slip, Wrong};
 use crate::first::First;
 use crate::run::{alone, run, Until};
-use desk::{self, No, Response, Shape, State, Verdict, RUNNING};
-use second;
-use std::ops::Range;
+use crate::states::BLANK;
+use desk::raw::{State, RUNNING};
+use desk::{HORIZON, MOST_REQUESTS};
 
-#[derive(Debug, Clone, Copy, PartialEq, Eq)]
-pub enum Slip {
-    None,
-    RefusedIndex,
-    MarginAtLimit,
-    LastStart,
-    Round,
-    GuardByte,
-    RefusedWrites,
-    OneTickOneSlot,
-    StoppedTicks,
-    Word,
-    ErrorAnswered,
-    Status,
-    Panic,
-}
-
-/// The library with one slip in it.
-pub struct Wrong(pub Slip);
-
-impl First for Wrong {
-    fn line(&self, line: &str) -> (String, u8) {
-        let said = second::answer(line);
-        let status = status_of(&said);
-        match self.0 {
-            Slip::Word => (said.replace("all-met", "all met"), status),
-            Slip::ErrorAnswered if said.starts_with("error") => ("refused 1 0".to_string(), status),
-            Slip::Status if said.starts_with("late") => (said, 0),
-            _ => (said, status),
-        }
-    }
-    fn read(&self, table: &[u8]) -> Result<Shape, No> {
-        assert!(self.0 != Slip::Panic || table.len() != 8, "this slip is a panic");
-        let by = usize::from(self.0 == Slip::RefusedIndex);
-        desk::read(table).map_err(|no| No {
-            index: no.index + by * usize::from(no.number == 6),
-            ..no
-        })
-    }
-    fn margin(&self, table: &[u8], t: u64) -> Result<i64, No> {
-        let by = i64::from(self.0 == Slip::MarginAtLimit && t == 65_536);
-        desk::margin(table, t).map(|margin| margin + by)
-    }
-    fn verdict(&self, table: &[u8]) -> Result<Verdict, No> {
-        let mut said = desk::verdict(table)?;
-        said.starts[15] += u8::from(self.0 == Slip::LastStart && said.verdict == desk::FITS);
-        Ok(said)
-    }
-    fn response(&self, table: &[u8], task: u64, frame: u64) -> Result<Response, No> {
-        let said = desk::response(table, task, frame)?;
-        let by = u64::from(self.0 == Slip::Round && said.late);
-        Ok(Response {
-            round: said.round + by,
-            ..said
-        })
-    }
-    fn overload(&self, table: &[u8], memory: &mut [u8], lent: Range<usize>, place: u64) -> Result<usize, No> {
-        let end = lent.end;
-        let said = desk::overload(table, &mut memory[lent], place as usize);
-        match self.0 {
-            Slip::GuardByte if said.is_ok() => memory[end] ^= 1,
-            Slip::RefusedWrites if said.is_err() => memory[end - 1] ^= 1,
-            _ => {}
-        }
-        said
-    }
-    fn tick(&self, state: State) -> State {
-        let mut next = desk::tick(state);
-        next.task[127] ^= u8::from(self.0 == Slip::OneTickOneSlot && next.tick == 9);
-        next.tick += u32::from(self.0 == Slip::StoppedTicks && state.outcome > 2 && next.tick < 9);
-        next
-    }
-}
-
-const SLIPS: [(Slip, &str); 11] = [
+const SLIPS: [(Slip, &str); 12] = [
     (Slip::RefusedIndex, "read"),
-    (Slip::MarginAtLimit, "margin with the numbers [65536]"),
+    (Slip::RefusedField, "verdict"),
+    (Slip::MarginAtLimit, "margin with the numbers"),
     (Slip::LastStart, "verdict"),
     (Slip::Round, "response"),
     (Slip::GuardByte, "it is a guard byte"),
@@ -130,6 +57,7 @@ fn a_panic_is_a_difference_with_its_table() {
 fn a_difference_is_said_with_the_table_and_both_answers() {
     let found = run(&Wrong(Slip::MarginAtLimit), 1, Until::Cases(20));
     let (case, difference) = found.difference.expect("the slip is found");
+    assert!(difference.question.ends_with(&format!("[{HORIZON}]")));
     let report = difference.report(1, case);
     let table: String = difference.table.iter().map(|b| format!("{b:02x}")).collect();
     assert!(report.contains(&table) && !table.is_empty(), "{report}");
@@ -141,23 +69,16 @@ fn a_difference_is_said_with_the_table_and_both_answers() {
 
 #[test]
 fn a_stopped_state_of_no_known_outcome_comes_back() {
-    let blank = State {
-        tick: 0,
+    let stopped = State {
         outcome: 255,
         index: 7,
-        left: [1; 128],
-        due: [0; 128],
-        arrive: [0; 128],
-        task: [0; 128],
+        left: [1; MOST_REQUESTS],
+        ..BLANK
     };
-    assert_eq!(Wrong(Slip::None).tick(blank), blank);
-    assert_ne!(
-        Wrong(Slip::None)
-            .tick(State {
-                outcome: RUNNING,
-                ..blank
-            })
-            .outcome,
-        RUNNING
-    );
+    assert_eq!(Wrong(Slip::None).tick(stopped), stopped);
+    let running = State {
+        outcome: RUNNING,
+        ..stopped
+    };
+    assert_ne!(Wrong(Slip::None).tick(running).outcome, RUNNING);
 }

@@ -2,7 +2,10 @@
 mod batch;
 mod errors;
 mod files;
+mod judge;
+mod lists;
 mod people;
 mod program;
 mod questions;
 mod refused;
+mod words;

@@ -1,153 +1,9 @@
-//! The commands for people: judge, steps, explain, help and version.
-use crate::program::{expect, fed, run};
-use limpidorsa::batch::words;
-
-// A paragraph as one line.
-pub fn judged(word: &str, status: i32) -> String {
-    let said = run(&["judge", word]);
-    assert_eq!((said.err.as_str(), said.status), ("", status), "{word}");
-    assert!(said.out.lines().all(|line| line.len() <= 80), "{}", said.out);
-    said.out.trim_end().replace('\n', " ")
-}
-
-#[test]
-fn a_table_that_fits() {
-    assert_eq!(
-        judged("examples/A", 0),
-        "examples/A: fits (1 task, 4 records). Every deadline is held in every legal request list, of any length, \
-         under earliest deadline first. The closing window is 8 ticks: all tasks together bring at most 8 ticks of \
-         work into it. The least margin up to there is 0, first at t = 2: requests that arrive and are due within 2 \
-         ticks need at most 2 ticks."
-    );
-    let ends =
-        "least margin up to there is 1, first at t = 1: no request can both arrive and be due within 1 tick.";
-    assert!(judged("examples/F", 0).ends_with(ends));
-}
-
-#[test]
-fn an_overloaded_table() {
-    assert_eq!(
-        judged("examples/B", 1),
-        "examples/B: overloaded (2 tasks, 5 records). Requests that arrive and are due within 2 ticks can need 3 \
-         ticks: 1 tick more than there is. No schedule whatever holds every deadline. A legal list of 2 requests shows \
-         it: task 0 frame 1 arrives at 0 and needs 2 ticks by 2; task 1 frame 0 arrives at 0 and needs 1 tick by 2. \
-         Replayed under earliest deadline first, task 1 frame 0 (record 1) misses its deadline at tick 2."
-    );
-    let more = judged("hex:0001020005000100", 1);
-    assert!(more.contains("; and 1 more. Replayed"), "{more}");
-}
-
-// (1,130,1) and (1,1,2): more requests than the bench takes.
-#[test]
-fn an_overload_list_too_long_for_the_bench() {
-    let text = judged("hex:0001010082000100 0101010001000200", 1);
-    assert!(
-        text.contains("; and 256 more. That is longer than the bench takes, 128 records"),
-        "{text}"
-    );
-    let ends = "but under any schedule one of its requests that are due by tick 259 misses its deadline.";
-    assert!(text.ends_with(ends), "{text}");
-}
-
-// (1,64,1) and (1,1,2): just as many as it takes.
-#[test]
-fn the_longest_overload_list_that_is_replayed() {
-    let text = judged("hex:0001010040000100 0101010001000200", 1);
-    assert!(text.contains("A legal list of 128 requests shows it: "), "{text}");
-    let ends =
-        "; and 124 more. Replayed under earliest deadline first, task 1 frame 0 (record 127) misses its \
-        deadline at tick 127.";
-    assert!(text.ends_with(ends), "{text}");
-}
-
-#[test]
-fn an_undecided_table() {
-    let text = judged("hex:0001e903ffffe803", 1);
-    let starts = "hex:0001e903ffffe803: undecided (1 task, 1 record). The desk looks at up to 65,536 ticks, ";
-    assert!(text.starts_with(starts), "{text}");
-    assert!(
-        text.ends_with("Make an E less or a P greater, and judge again."),
-        "{text}"
-    );
-}
-
-// Fourteen frames of E 5,000 may come within 14 ticks, and the two after them keep the load at 0.36.
-#[test]
-fn an_undecided_table_of_low_load() {
-    let (heavy, light) = ([0, 3, 0x88, 0x13, 255, 255], [0, 3, 1, 0, 255, 255]);
-    let mut table = [&heavy[..], &[1, 0]].concat().repeat(13);
-    table.extend([&heavy[..], &[255, 255]].concat());
-    table.extend([&light[..], &[255, 255]].concat().repeat(2));
-    let text = fed(&["judge", "-"], &table).out.replace('\n', " ");
-    let load =
-        "The load may be full, above that, or close to it; or much work can come in a burst and is due late.";
-    assert!(
-        text.starts_with("standard input: undecided (1 task, 16 records). ") && text.contains(load),
-        "{text}"
-    );
-}
-
-#[test]
-fn a_table_from_standard_input() {
-    let said = fed(&["judge", "-"], &[0, 1, 1, 0, 1, 0, 1, 0]);
-    assert!(
-        said.out.starts_with("standard input: fits (1 task, 1 record). "),
-        "{}",
-        said.out
-    );
-}
-
-#[test]
-fn several_tables_and_a_total() {
-    let said = run(&[
-        "judge",
-        "examples/A",
-        "examples/Q",
-        "examples/B",
-        "examples/65-records",
-    ]);
-    let wanted = "examples/A: fits, window 8, least margin 0 at t = 2\n\
-        examples/B: overloaded at t = 2 by 1 tick\n\
-        examples/65-records: refused 1: the table's length is 0, above 512 bytes, or not a multiple of 8\n\
-        4 tables: 1 fit, 1 overloaded, 0 undecided, 1 refused, 1 could not be read\n";
-    assert_eq!((said.out.as_str(), said.status), (wanted, 3));
-    assert!(
-        said.err
-            .starts_with("limpidorsa: examples/Q: there is no such file; "),
-        "{}",
-        said.err
-    );
-    assert_eq!(
-        said.err.lines().count(),
-        1,
-        "no progress line where standard error is no terminal"
-    );
-}
-
-// Takes seconds: two of the tables have P 1, and no window closes.
-#[test]
-fn all_the_examples() {
-    let folder = concat!(env!("CARGO_MANIFEST_DIR"), "/../../examples");
-    let names = std::fs::read_dir(folder)
-        .unwrap()
-        .map(|entry| entry.unwrap().path().into_os_string());
-    let mut names: Vec<String> = names.map(|name| name.into_string().unwrap()).collect();
-    names.sort();
-    let words: Vec<&str> = ["judge"]
-        .into_iter()
-        .chain(names.iter().map(String::as_str))
-        .collect();
-    let said = run(&words);
-    assert_eq!((said.err.as_str(), said.status), ("", 2));
-    let lines: Vec<&str> = said.out.lines().collect();
-    assert_eq!(lines.len(), names.len() + 1);
-    assert!(said.out.contains("/limit: overloaded at t = 65,536 by 2 ticks\n"));
-    assert!(said.out.contains("/undecided: undecided up to 65,536 ticks\n"));
-    assert_eq!(
-        lines.last(),
-        Some(&"13 tables: 7 fit, 4 overloaded, 1 undecided, 1 refused")
-    );
-}
+//! The commands for people besides judge: steps, explain, help and version.
+use crate::program::{expect, run};
+use desk::{grouped, HORIZON, LAST_ARRIVAL, LAST_REFUSAL, LAST_TICK};
+use limpidorsa::lines::hex;
+use limpidorsa::questions::QUESTIONS;
+use limpidorsa::split::words;
 
 #[test]
 fn steps_of_a_list() {
@@ -171,18 +27,24 @@ fn steps_of_a_list() {
     expect(&["steps", "examples/A", "hex:"], "tick 0   all met", 0);
 }
 
+// The last arrival, and all of E 65,535 after it.
 #[test]
 fn steps_of_the_longest_run() {
-    let text = "ticks 0 to 65,534         idle\n\
-        ticks 65,535 to 131,069   task 0 frame 0 (record 0), 65,535 units, done\n\
-        tick 131,070              all met";
-    expect(&["steps", "examples/longest", "hex:00000000 ffff0000"], text, 0);
+    let [before, arrival, last, end] =
+        [LAST_ARRIVAL - 1, LAST_ARRIVAL, LAST_TICK - 1, LAST_TICK].map(grouped);
+    let text = format!(
+        "ticks 0 to {before}         idle\n\
+         ticks {arrival} to {last}   task 0 frame 0 (record 0), 65,535 units, done\n\
+         tick {end}              all met"
+    );
+    let list = format!("hex:00000000 {}", hex(&LAST_ARRIVAL.to_le_bytes()));
+    expect(&["steps", "examples/longest", &list], &text, 0);
 }
 
 // Each example is pasted: the words of its command are asked, and the answer below it must be the one given.
 #[test]
 fn every_explained_example_gives_its_answer() {
-    for number in 1..=13 {
+    for number in 1..=LAST_REFUSAL {
         let said = run(&["explain", &number.to_string()]);
         assert_eq!((said.err.as_str(), said.status), ("", 0));
         assert!(said.out.starts_with(&format!("Refusal {number} is given when ")));
@@ -201,9 +63,14 @@ fn every_explained_example_gives_its_answer() {
 fn help_and_version() {
     let said = run(&["help"]);
     assert_eq!((said.err.as_str(), said.status), ("", 0));
-    for question in &limpidorsa::ask::QUESTIONS {
-        let row = format!("  {} {}", question.name, question.takes.join(" "));
-        assert!(said.out.contains(&row), "{row}");
+    for question in &QUESTIONS {
+        let rows = said.out.lines();
+        let mut rows = rows.filter(|row| row.starts_with(&format!("  {}  ", question.usage())));
+        assert!(
+            rows.next().is_some_and(|row| row.ends_with(question.example)),
+            "{}",
+            question.usage()
+        );
     }
     for word in [
         "judge FILE..",
@@ -213,6 +80,8 @@ fn help_and_version() {
         "Exit status: 0",
         "hex:",
         "--version",
+        &format!("(1 to {LAST_REFUSAL})"),
+        &format!("up to {HORIZON}."),
     ] {
         assert!(said.out.contains(word), "{word}");
     }

@@ -1,5 +1,6 @@
-//! Every question on document 01's numbers: its answer line and its exit status.
-use crate::program::{expect, fed, run};
+//! Every question about a table alone on document 01's numbers: its answer line and its exit status.
+use crate::program::{expect, fed};
+use desk::HORIZON;
 
 const ONE: &str = "hex:0001010001000100";
 
@@ -57,95 +58,6 @@ fn undecided_is_bad_news() {
 }
 
 #[test]
-fn k4_the_overload_list_in_a_buffer() {
-    expect(
-        &["overload", "examples/B", "20", "2"],
-        "written 16 eeee00010000000000000100000000000000eeee",
-        0,
-    );
-    expect(&["overload", "examples/B", "20", "5"], "refused 12 0", 2);
-    expect(
-        &["overload", "examples/B", "16", "0"],
-        "written 16 00010000000000000100000000000000",
-        0,
-    );
-    expect(&["overload", "examples/B", "0", "0"], "refused 12 0", 2);
-    expect(
-        &["overload", "examples/B", "20", "18446744073709551615"],
-        "refused 12 0",
-        2,
-    );
-    expect(&["overload", "examples/A", "20", "99"], "refused 13 0", 2);
-    let long = run(&["overload", "examples/B", "16777216", "16777200"]);
-    assert_eq!(
-        (long.status, long.out.len()),
-        (0, "written 16 \n".len() + 2 * 16777216)
-    );
-    assert!(long.out.ends_with("eeee00010000000000000100000000000000\n"));
-}
-
-#[test]
-fn the_overload_list_alone() {
-    expect(
-        &["overload-list", "examples/B"],
-        "list 00010000000000000100000000000000",
-        0,
-    );
-    let four = "list 0000000000000000010000000000000000010000020000000002000003000000";
-    expect(&["overload-list", "examples/K7-2-5-10"], four, 0);
-    expect(&["overload-list", "examples/A"], "refused 13 0", 2);
-    expect(&["overload-list", "hex:00"], "refused 1 0", 2);
-}
-
-#[test]
-fn k5_lists_and_replays() {
-    expect(&["list", "examples/B", "lists/B"], "legal records=2", 0);
-    expect(&["replay", "examples/B", "lists/B"], "miss tick=2 record=1", 1);
-    expect(
-        &["list", "examples/K7-2-5-10", "lists/K7-2-5-10"],
-        "legal records=4",
-        0,
-    );
-    expect(
-        &["replay", "examples/K7-2-5-10", "lists/K7-2-5-10"],
-        "miss tick=5 record=1",
-        1,
-    );
-    expect(&["list", "examples/A", "lists/A"], "legal records=7", 0);
-    expect(&["replay", "examples/A", "lists/A"], "all-met tick=31", 0);
-    expect(&["replay", "examples/F", "lists/F"], "all-met tick=31", 0);
-    expect(&["replay", "examples/A", "hex:"], "all-met tick=0", 0);
-    expect(&["list", "examples/A", "lists/B"], "refused 10 1", 2);
-    expect(
-        &[
-            "replay",
-            "examples/A",
-            "hex:00 01 00 00 00 00 00 00 00 02 00 00 01 00 00 00",
-        ],
-        "refused 11 1",
-        2,
-    );
-    expect(&["replay", "hex:00", "hex:00"], "refused 1 0", 2);
-}
-
-// These digests were worked out apart from the program, from the states written down: tick 0 alone, and (0: 2, 1),
-// (1: 1, 1), (2: 0, 1).
-#[test]
-fn traces() {
-    expect(
-        &["trace", "examples/B", "hex:"],
-        "trace 4d25767f9dce13f5 all-met tick=0",
-        0,
-    );
-    expect(
-        &["trace", "examples/B", "lists/B"],
-        "trace 5124a38bf6732e64 miss tick=2 record=1",
-        1,
-    );
-    expect(&["trace", "examples/A", "lists/B"], "refused 10 1", 2);
-}
-
-#[test]
 fn k7_misfits_in_between_count() {
     expect(&["demand", "examples/K7", "0", "5"], "demand 4", 0);
 }
@@ -191,11 +103,12 @@ fn window_work_and_margin() {
     expect(&["work", "examples/A", "0", "2"], "work 5", 0);
     expect(&["work", "examples/A", "1", "2"], "refused 9 0", 2);
     expect(&["margin", "examples/B", "2"], "margin -1", 0);
-    expect(&["margin", ONE, "65536"], "margin 0", 0);
-    expect(&["margin", ONE, "65537"], "refused 7 0", 2);
-    expect(&["demand", ONE, "0", "65536"], "demand 65536", 0);
-    expect(&["work", ONE, "0", "65537"], "refused 7 0", 2);
-    expect(&["demand", ONE, "1", "65537"], "refused 9 0", 2);
+    let [last, beyond] = [HORIZON, HORIZON + 1].map(|t| t.to_string());
+    expect(&["margin", ONE, &last], "margin 0", 0);
+    expect(&["margin", ONE, &beyond], "refused 7 0", 2);
+    expect(&["demand", ONE, "0", &last], &format!("demand {last}"), 0);
+    expect(&["work", ONE, "0", &beyond], "refused 7 0", 2);
+    expect(&["demand", ONE, "1", &beyond], "refused 9 0", 2);
     expect(&["margin", ONE, "18446744073709551615"], "refused 7 0", 2);
 }
 

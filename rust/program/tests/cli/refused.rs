@@ -1,13 +1,16 @@
 //! Refusals for people: judge and steps say what the number means and what stands there.
-use crate::people::judged;
+use crate::judge::judged;
 use crate::program::{expect, run};
+use desk::{grouped, MOST_LIST_BYTES, MOST_TABLE_BYTES};
 
 #[test]
 fn a_table_of_a_wrong_length() {
     assert_eq!(
         judged("examples/65-records", 2),
-        "examples/65-records: refused 1: the table's length is 0, above 512 bytes, or not a multiple of 8. The table \
-         has 520 bytes. 'limpidorsa explain 1' has an example."
+        format!(
+            "examples/65-records: refused 1: the table's length is 0, above {MOST_TABLE_BYTES} bytes, or not a multiple \
+             of 8. The table has 520 bytes. 'limpidorsa explain 1' has an example."
+        )
     );
 }
 
@@ -93,9 +96,10 @@ fn steps_of_a_refused_list() {
 
 #[test]
 fn steps_of_a_list_of_a_wrong_length_and_of_a_refused_table() {
-    let long = format!("hex:{}", "00".repeat(1032));
-    let text = refused_steps("examples/A", &long);
-    assert!(text.contains(" The list has 1,032 bytes. 'limpidorsa"), "{text}");
+    let one_more = MOST_LIST_BYTES + 8;
+    let text = refused_steps("examples/A", &format!("hex:{}", "00".repeat(one_more)));
+    let length = format!(" The list has {} bytes. 'limpidorsa", grouped(one_more as u64));
+    assert!(text.contains(&length), "{text}");
     let text = refused_steps("examples/A", "hex:0001000000000000 00");
     assert!(text.contains(" The list has 9 bytes. 'limpidorsa"), "{text}");
     let text = refused_steps("hex:0001000005000500", "hex:");

@@ -1,9 +1,10 @@
 //! One question asked of both programs, its answers compared and counted.
 use crate::answer::Answer;
 use crate::cost::Cost;
-use crate::counts::{Counts, Section, NUMBERS};
+use crate::counts::{Counts, Section};
 use crate::difference::{shown, Difference};
 use crate::first::First;
+use crate::must::NUMBERS;
 use crate::purse::Purse;
 use crate::rng::Rng;
 use limpidorsa::lines::{hex, Line};

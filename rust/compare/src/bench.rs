@@ -1,8 +1,9 @@
 //! The questions about a table and a request list, and the bench tick by tick, each state whole.
 use crate::ask::{Ask, Same};
 use crate::cost::TICK;
-use crate::counts::{Section, ENDINGS};
+use crate::counts::Section;
 use crate::expected;
+use crate::must::ENDINGS;
 use crate::states::flat_state;
 use desk::raw::{State, RUNNING};
 use desk::LAST_TICK;

@@ -1,8 +1,9 @@
-//! The overload list written into buffers of many lengths from many places, each with guard bytes on both
-//! sides.
+//! The overload list: its size, and the list written into buffers of many lengths from many places, each with guard
+//! bytes on both sides.
 use crate::ask::{Ask, Same};
-use crate::counts::{Section, LONG_LIST};
+use crate::counts::Section;
 use crate::expected;
+use crate::must::{LONG_LIST, SIZES};
 use desk::MOST_LIST_BYTES;
 
 const GUARD: usize = 24;
@@ -20,6 +21,7 @@ pub fn overload(ask: &mut Ask) -> Same<Option<Vec<u8>>> {
     }
     let list = second::overload_list(&ask.table).ok();
     let once = ask.cost.verdict() + list.as_ref().map_or(0, |l| l.len() as u64 * BYTE);
+    size(ask, list.as_ref().map(Vec::len), once)?;
     for (length, place) in rooms(ask, list.as_ref().map(Vec::len)) {
         if ask.pays("overload", once) {
             into_buffer(ask, length, place, list.as_deref())?;
@@ -30,6 +32,24 @@ pub fn overload(ask: &mut Ask) -> Same<Option<Vec<u8>>> {
         ask.counts.add(Section::Compared, LONG_LIST, 1);
     }
     Ok(list)
+}
+
+// The size, which is the length of the list that the second program writes.
+fn size(ask: &mut Ask, list: Option<usize>, once: u64) -> Same<()> {
+    if !ask.pays("overload-size", once) {
+        return Ok(());
+    }
+    let said = expected::written(second::overload_size(&ask.table));
+    let size = ask.answers("overload-size", &[], ask.first.overload_size(&ask.table), said)?;
+    let asked = || "overload-size, and the length of the list".to_string();
+    ask.equal(asked, &size.map(|size| size.bytes), &list)?;
+    if size.is_some() {
+        ask.counts.add(Section::Compared, SIZES, 1);
+    }
+    if ask.pays("overload-size", once) {
+        ask.table_line("overload-size", &[])?;
+    }
+    Ok(())
 }
 
 // Length of the buffer and place: exact room, one byte short, the place at the end, past it and far past it.

@@ -20,6 +20,7 @@ pub mod first;
 mod foreign;
 mod kinds;
 mod lists;
+pub mod must;
 mod oddities;
 mod pace;
 mod purse;

@@ -23,6 +23,7 @@ pub fn line(ask: &mut Ask) -> Same<()> {
         format!("demand {table} {n}"),
         format!("response {table} 0 {n}.5"),
         format!("overload {table} {n}"),
+        format!("overload-size {table} {n}"),
         format!("list {table}"),
         format!("replay {table} {n}"),
         format!("trace {table} hex:0"),

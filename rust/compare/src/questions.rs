@@ -1,8 +1,9 @@
 //! The questions about a table alone, asked of both programs.
 use crate::ask::{Ask, Same};
 use crate::cost::Cost;
-use crate::counts::{Section, AT_LAST_T, NO_WINDOW, RESPONSES, VERDICTS};
+use crate::counts::Section;
 use crate::expected;
+use crate::must::{AT_LAST_T, NO_WINDOW, RESPONSES, VERDICTS};
 use crate::record::tasks_of;
 use desk::raw::OVERLOADED;
 use desk::HORIZON;

@@ -1,5 +1,6 @@
 //! The program that compares the proved library with the second program on random tables and lists.
 use compare::first::Proved;
+use compare::must::never_met;
 use compare::run::{alone, run, Found, Until};
 use std::process::ExitCode;
 use std::time::Instant;
@@ -9,7 +10,7 @@ compare [--seed N] [--cases N | --minutes N | --case N]
 
 Asks the proved library and the second program the same questions about random tables and request
 lists, and stops at the first difference. It says how many of each kind were compared, and fails
-too where a refusal, a verdict, a response or an ending was never met.
+too where a question, a refusal, a verdict, a response or an ending was never met.
 
   --seed N      another stream of cases
   --cases N     so many cases, from 0 on
@@ -74,7 +75,7 @@ fn conclude(found: &Found, seed: u64, whole: bool) -> ExitCode {
         println!("{}", difference.report(seed, *case));
         return ExitCode::from(1);
     }
-    let never = found.counts.never_met();
+    let never = never_met(&found.counts);
     if whole && !never.is_empty() {
         println!(
             "no difference, but never met, so that the run says too little: {}",

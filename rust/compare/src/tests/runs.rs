@@ -1,6 +1,7 @@
 //! A run is the same whatever its threads do, and a run that meets too little says so.
 use super::wrong::{Slip, Wrong};
 use crate::counts::{Counts, Section};
+use crate::must::never_met;
 use crate::run::{alone, run, Until};
 
 #[test]
@@ -17,5 +18,5 @@ fn a_run_is_the_sum_of_its_cases() {
 fn a_run_of_one_case_meets_too_little() {
     let found = run(&Wrong(Slip::None), 2, Until::Cases(1));
     assert!(found.difference.is_none());
-    assert!(!found.counts.never_met().is_empty());
+    assert!(!never_met(&found.counts).is_empty());
 }

@@ -6,12 +6,13 @@ use crate::states::BLANK;
 use desk::raw::{State, RUNNING};
 use desk::{HORIZON, MOST_REQUESTS};
 
-const SLIPS: [(Slip, &str); 12] = [
+const SLIPS: [(Slip, &str); 13] = [
     (Slip::RefusedIndex, "read"),
     (Slip::RefusedField, "verdict"),
     (Slip::MarginAtLimit, "margin with the numbers"),
     (Slip::LastStart, "verdict"),
     (Slip::Round, "response"),
+    (Slip::Size, "overload-size"),
     (Slip::GuardByte, "it is a guard byte"),
     (Slip::RefusedWrites, "overload into"),
     (Slip::OneTickOneSlot, "tick of the state"),

@@ -2,7 +2,7 @@
 use crate::ask::status_of;
 use crate::first::First;
 use desk::raw::{Margin, Response, Shape, State, Verdict, Written, FITS};
-use desk::{flat, HORIZON, MOST_REQUESTS};
+use desk::{flat, HORIZON, MOST_LIST_BYTES, MOST_REQUESTS};
 use limpidorsa::lines::Line;
 use limpidorsa::status::Status;
 use std::ops::Range;
@@ -15,6 +15,7 @@ pub enum Slip {
     MarginAtLimit,
     LastStart,
     Round,
+    Size,
     GuardByte,
     RefusedWrites,
     OneTickOneSlot,
@@ -60,6 +61,11 @@ impl First for Wrong {
     fn response(&self, table: &[u8], task: u64, frame: u64) -> Response {
         let mut said = flat::response(table, task, frame);
         said.round += u64::from(self.0 == Slip::Round && said.late);
+        said
+    }
+    fn overload_size(&self, table: &[u8]) -> Written {
+        let mut said = flat::overload_size(table);
+        said.bytes += 8 * usize::from(self.0 == Slip::Size && said.bytes > MOST_LIST_BYTES);
         said
     }
     fn overload(&self, table: &[u8], memory: &mut [u8], lent: Range<usize>, place: u64) -> Written {

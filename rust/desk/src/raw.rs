@@ -7,11 +7,9 @@ pub const LAST_ARRIVAL: u32 = 65535;
 pub const LAST_TICK: u32 = 131070;
 
 pub const MOST_RECORDS: usize = 64;
-
 pub const MOST_TABLE_BYTES: usize = 512;
 
 pub const MOST_REQUESTS: usize = 128;
-
 pub const MOST_LIST_BYTES: usize = 1024;
 
 pub const LAST_REFUSAL: u8 = 13;
@@ -54,9 +52,7 @@ pub struct Window {
 }
 
 pub const OVERLOADED: u8 = 1;
-
 pub const FITS: u8 = 2;
-
 pub const UNDECIDED: u8 = 3;
 
 #[repr(C)]
@@ -103,9 +99,7 @@ pub struct Ending {
 }
 
 pub const RUNNING: u8 = 0;
-
 pub const MISSED: u8 = 1;
-
 pub const ALL_MET: u8 = 2;
 
 #[repr(C)]
@@ -128,6 +122,7 @@ pub struct Loaded {
     pub state: State,
 }
 
+// A slice of Rattle is a pointer and then a length.
 extern "C" {
     pub fn limpidorsa_read(table: *const u8, table_len: usize) -> Shape;
     pub fn limpidorsa_demand(table: *const u8, table_len: usize, task: u64, t: u64) -> Amount;

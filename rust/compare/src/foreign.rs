@@ -51,7 +51,7 @@ fn blank(rng: &mut Rng) -> State {
     } else {
         rng.pick(&[1, 2, 3, 4, 128, 255, any as u8])
     };
-    let index = rng.pick(&[0, 0, 5, 127, 128, usize::MAX]);
+    let index = rng.pick(&[0, 0, 5, MOST_REQUESTS - 1, MOST_REQUESTS, usize::MAX]);
     State {
         tick,
         outcome,

@@ -1,5 +1,6 @@
-//! The library's functions on Rust's slices, each with its flat answer as it comes: the refusal in front, and zero in every
-//! field that the answer has no use for. Any bytes and any numbers may be handed in, and nothing is kept after a call.
+//! The library's functions on Rust's slices, each with its flat answer as it comes: the refusal in front, and zero in
+//! every field that the answer has no use for. Any bytes and any numbers may be handed in, and nothing is kept after a
+//! call.
 use crate::raw::{
     self, Amount, Ending, Listed, Loaded, Margin, Response, Shape, State, Verdict, Window, Written,
 };
@@ -54,8 +55,8 @@ pub fn overload_size(table: &[u8]) -> Written {
 
 /// The overload list, written into the buffer from the place on.
 pub fn overload(table: &[u8], buffer: &mut [u8], place: usize) -> Written {
-    // SAFETY: each slice's own pointer and length. The library only reads from the table; the buffer is borrowed by this
-    // call alone, so it overlaps nothing.
+    // SAFETY: each slice's own pointer and length. The library only reads from the table; the buffer is borrowed by
+    // this call alone, so it overlaps nothing.
     unsafe {
         raw::limpidorsa_overload(
             table.as_ptr(),

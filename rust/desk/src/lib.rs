@@ -1,7 +1,8 @@
 //! The proved desk for Rust.
 //!
-//! `raw` is what the library exports, written from its source. `flat` calls it on Rust's slices and hands out each answer
-//! as it comes. The functions here, one for each question, turn that into an answer of a type of its own or a `Refusal`.
+//! `raw` is what the library exports, written from its source. `flat` calls it on Rust's slices and hands out each
+//! answer as it comes. The functions here, one for each question, turn that into an answer of a type of its own or a
+//! `Refusal`.
 mod answers;
 mod bench;
 pub mod flat;

@@ -57,10 +57,7 @@ fn each_verdict() {
         starts,
     };
     assert_eq!(verdict(&b()), Ok(overloaded));
-    assert_eq!(
-        verdict(&table(&[(0, 1, 1001, 65_535, 1000)])),
-        Ok(Verdict::Undecided)
-    );
+    assert_eq!(verdict(&endless()), Ok(Verdict::Undecided));
 }
 
 #[test]

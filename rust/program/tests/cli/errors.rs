@@ -1,5 +1,5 @@
-//! Files that cannot be read and answers that cannot be written: exit status 3, and a complaint that names what is wrong
-//! and what to do.
+//! Files that cannot be read and answers that cannot be written: exit status 3, and a complaint that names what is
+//! wrong and what to do.
 use crate::program::{command, expect_error, fed, run};
 use std::ffi::OsStr;
 use std::os::unix::ffi::OsStrExt;

@@ -8,8 +8,8 @@ fn a_table_of_a_wrong_length() {
     assert_eq!(
         judged("examples/65-records", 2),
         format!(
-            "examples/65-records: refused 1: the table's length is 0, above {MOST_TABLE_BYTES} bytes, or not a multiple \
-             of 8. The table has 520 bytes. 'limpidorsa explain 1' has an example."
+            "examples/65-records: refused 1: the table's length is 0, above {MOST_TABLE_BYTES} bytes, or not a \
+             multiple of 8. The table has 520 bytes. 'limpidorsa explain 1' has an example."
         )
     );
 }

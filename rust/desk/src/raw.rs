@@ -140,7 +140,7 @@ extern "C" {
         place: usize,
     ) -> Written;
     pub fn limpidorsa_list(table: *const u8, table_len: usize, list: *const u8, list_len: usize) -> Listed;
-    pub fn limpidorsa_replay(table: *const u8, table_len: usize, list: *const u8, list_len: usize) -> Ending;
     pub fn limpidorsa_load(table: *const u8, table_len: usize, list: *const u8, list_len: usize) -> Loaded;
+    pub fn limpidorsa_replay(table: *const u8, table_len: usize, list: *const u8, list_len: usize) -> Ending;
     pub fn limpidorsa_tick(state: State) -> State;
 }

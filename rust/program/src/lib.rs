@@ -1,0 +1,23 @@
+//! The desk at the command line: `cli` answers the program's arguments, and `batch` a line of them.
+mod arguments;
+mod ask;
+pub mod batch;
+pub mod cli;
+mod command;
+mod evidence;
+mod explain;
+mod help;
+mod input;
+mod judge;
+pub mod lines;
+mod output;
+mod paragraph;
+mod progress;
+mod question;
+pub mod questions;
+mod records;
+mod refused;
+pub mod split;
+pub mod status;
+mod steps;
+mod trace;

@@ -1,0 +1,110 @@
+//! A question with all that it is asked with, and how it is made of the words of the command line.
+use crate::arguments::{usage, Arguments, Word};
+use crate::input::Input;
+use crate::output::shown;
+use crate::questions::QUESTIONS;
+use desk::{grouped, LAST_ARRIVAL, MOST_TASKS};
+
+type Table = Vec<u8>;
+type List = Vec<u8>;
+type Task = u64;
+type Frame = u64;
+type T = u64;
+type W = u64;
+type Buflen = u64;
+type Place = u64;
+
+/// The longest buffer that `overload` may be asked for.
+const LONGEST_BUFFER: u64 = 16_777_216;
+
+#[derive(Debug, Clone, PartialEq, Eq)]
+pub enum Question {
+    Read(Table),
+    Verdict(Table),
+    Window(Table),
+    Demand(Table, Task, T),
+    Work(Table, Task, W),
+    Margin(Table, T),
+    Response(Table, Task, Frame),
+    Responses(Table),
+    OverloadSize(Table),
+    Overload(Table, Buflen, Place),
+    OverloadList(Table),
+    List(Table, List),
+    Replay(Table, List),
+    Trace(Table, List),
+}
+
+/// What a question takes, a table always first, and the question that it makes.
+pub enum Form {
+    Table(fn(Table) -> Question),
+    List(fn(Table, List) -> Question),
+    Number(Word, fn(Table, u64) -> Question),
+    Numbers(Word, Word, fn(Table, u64, u64) -> Question),
+}
+
+/// A question's words: its name, what it takes, and what an answer looks like.
+pub struct Words {
+    pub name: &'static str,
+    pub form: Form,
+    pub example: &'static str,
+}
+
+impl Question {
+    /// The question of this name, asked with these words, or why it cannot be asked.
+    pub fn of(name: &str, words: &[String], input: &mut Input) -> Result<Question, String> {
+        let Some(asked) = QUESTIONS.iter().find(|asked| asked.name == name) else {
+            let name = shown(name);
+            return Err(format!("{name}: there is no such command; see 'limpidorsa help'"));
+        };
+        let takes = asked.form.takes();
+        let question = asked
+            .form
+            .question(&mut Arguments::new(asked.name, &takes, words, input)?)?;
+        question.unless_too_long()
+    }
+
+    fn unless_too_long(self) -> Result<Question, String> {
+        match self {
+            Question::Overload(_, length, _) if length > LONGEST_BUFFER => {
+                // Each task has at most one request at each arrival, of 8 bytes.
+                let any_list = MOST_TASKS as u64 * (u64::from(LAST_ARRIVAL) + 1) * 8;
+                Err(format!(
+                    "overload: BUFLEN is {length}; at most {LONGEST_BUFFER} can be asked for, and any list goes into \
+                     {} bytes",
+                    grouped(any_list)
+                ))
+            }
+            _ => Ok(self),
+        }
+    }
+}
+
+impl Form {
+    fn takes(&self) -> Vec<Word> {
+        match self {
+            Form::Table(_) => vec![Word::Table],
+            Form::List(_) => vec![Word::Table, Word::List],
+            Form::Number(number, _) => vec![Word::Table, *number],
+            Form::Numbers(first, second, _) => vec![Word::Table, *first, *second],
+        }
+    }
+
+    // The words are taken in their order, so that the first that is wrong is named.
+    fn question(&self, words: &mut Arguments) -> Result<Question, String> {
+        let table = words.bytes()?;
+        Ok(match self {
+            Form::Table(question) => question(table),
+            Form::List(question) => question(table, words.bytes()?),
+            Form::Number(_, question) => question(table, words.number()?),
+            Form::Numbers(_, _, question) => question(table, words.number()?, words.number()?),
+        })
+    }
+}
+
+impl Words {
+    /// The question as it is written.
+    pub fn usage(&self) -> String {
+        usage(self.name, &self.form.takes())
+    }
+}

@@ -1,6 +1,0 @@
-//! The program `limpidorsa`: its arguments go to `cli::run`, which answers and gives the exit status.
-use std::process::ExitCode;
-
-fn main() -> ExitCode {
-    ExitCode::from(limpidorsa::cli::run(std::env::args_os().skip(1)))
-}

@@ -31,26 +31,28 @@
 extern "C" {
 #endif
 
-/* The greatest t, and the greatest window, that is asked about or searched. */
+/* "t is 0 to 65,536": the greatest t, and the greatest window, that is asked about or searched. */
 enum { LIMPIDORSA_HORIZON = 65536 };
 
-/* The latest arrival in a request list. */
+/* "arrivals 0 to 65,535": the latest in a request list. */
 enum { LIMPIDORSA_LAST_ARRIVAL = 65535 };
 
-/* The tick by which every run has ended: a bench that was loaded stops within LAST_TICK + 1 calls of limpidorsa_tick.
- */
+/* "All runs end by tick 131,070": a bench that was loaded stops within `LIMPIDORSA_LAST_TICK` + 1 calls of
+ * limpidorsa_tick. */
 enum { LIMPIDORSA_LAST_TICK = 131070 };
 
-/* As many records, and bytes, a table may have. */
+/* "At most 64 records": as many records, and bytes, a table may have. */
 enum { LIMPIDORSA_MOST_RECORDS = 64, LIMPIDORSA_MOST_TABLE_BYTES = 512 };
 
-/* As many records, and bytes, a request list may have that is replayed. */
+/* "A list has 0 to 128 records": as many records, and bytes, a list may have that is replayed. An overload list may
+ * have more. */
 enum { LIMPIDORSA_MOST_REQUESTS = 128, LIMPIDORSA_MOST_LIST_BYTES = 1024 };
 
 /* Every refusal has a number from 1 to this. */
 enum { LIMPIDORSA_LAST_REFUSAL = 13 };
 
-/* "Every refusal is a refusal number with the record index." In C's layout, for the boundary hands it out as it is. */
+/* "Every refusal is a refusal number with the record index." A number of document 01's table, and the index of the
+ * record that it carries; 0 and 0 where nothing was refused. In C's layout, for the desk hands it out as it is. */
 struct limpidorsa_refusal {
     uint8_t number;
     size_t index;
@@ -173,7 +175,8 @@ struct limpidorsa_response limpidorsa_response(const uint8_t *table, size_t tabl
 struct limpidorsa_written limpidorsa_overload_size(const uint8_t *table, size_t table_len);
 
 /* Writes the overload list of the table into the buffer, from the place on; bytes before it and after the list stay.
- * Refuses with 13, then 12. A call that is refused, with whatever number, changes no byte. */
+ * Refuses with 13, then 12. A call that is refused, with whatever number, changes no byte. limpidorsa_overload_size
+ * says how many bytes the list has; it may have more records than a list that is replayed. */
 struct limpidorsa_written limpidorsa_overload(const uint8_t *table, size_t table_len, uint8_t *buffer,
                                               size_t buffer_len, size_t place);
 
@@ -187,9 +190,9 @@ struct limpidorsa_loaded limpidorsa_load(const uint8_t *table, size_t table_len,
 struct limpidorsa_ending limpidorsa_replay(const uint8_t *table, size_t table_len, const uint8_t *list,
                                            size_t list_len);
 
-/* One tick of the bench, of any state. A state whose outcome is not LIMPIDORSA_RUNNING comes back unchanged, and so
- * does one past LIMPIDORSA_LAST_TICK. A bench that was loaded stops within LIMPIDORSA_LAST_TICK + 1 calls, and holds
- * its answer then. */
+/* One tick of the bench, of any state. A state whose outcome is not `LIMPIDORSA_RUNNING` comes back unchanged, and so
+ * does one past `LIMPIDORSA_LAST_TICK`. A bench that was loaded stops within `LIMPIDORSA_LAST_TICK` + 1 calls, and
+ * holds its answer then. */
 struct limpidorsa_state limpidorsa_tick(struct limpidorsa_state state);
 
 #ifdef __cplusplus

@@ -1,4 +1,0 @@
-pub mod DigitLaws
-pub mod FillLaws
-pub mod HexLaws
-pub mod TextLaws

@@ -9,7 +9,7 @@ use Rattle.model.specs.Task.{Table, ProperTable}
 use Rattle.model.specs.Request.{last-arrival}
 use Rattle.model.specs.Jobs.{Jobs, jobs-of}
 use Rattle.model.specs.Machine.{sooner}
-use Rattle.model.specs.Replay.{Replayed, all-met, Says, Met, last-tick}
+use Rattle.model.specs.Replay.{Replayed, Says, last-tick}
 use Rattle.model.proofs.ReplayLaws.{says-one}
 use Rattle.requests.specs.Entry.{list-of}
 use Rattle.requests.specs.Accepted.{Accepted}
@@ -79,21 +79,3 @@ module _ (jobs : Jobs) (good : Replayable jobs) where
   -- and nothing else says it
   pub replay-only : (x : Replayed) → Says jobs (sooner jobs) x → x ≡ replay-of jobs
   replay-only x says = says-one jobs (sooner jobs) x (replay-of jobs) says replay-says
-
--- "0 for an empty list"
-pub replay-empty : (jobs : Jobs) → jobs .count ≡ 0 → replay-of jobs ≡ all-met 0
-replay-empty jobs empty = sym (replay-only jobs good (all-met 0) nothing)
-  where
-    none : (k : ℕ) → k < jobs .count → ⊥
-    none k inside = omega arith
-
-    good : Replayable jobs
-    good = record { fits = omega arith; in-time = λ k inside. absurd (none k inside) }
-
-    nothing : Met jobs (sooner jobs) 0
-    nothing =
-        record {
-          done = λ k inside. absurd (none k inside);
-          worked = λ u less. absurd (omega arith);
-          on-time = λ u k late. none k (late .inside);
-        }

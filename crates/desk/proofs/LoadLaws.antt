@@ -4,7 +4,6 @@ use mathlib.Core.Path.{_≡_, sym}
 use Prim.Native.Nat.{ℕ}
 use Rattle.model.specs.Answer.{Answer, answered, refused}
 use Rattle.table.specs.declared.reader.Refusal.{Refusal}
-use Rattle.bench.specs.declared.state.Bench.{Bench}
 use Rattle.bench.specs.Loaded.{loaded, no-jobs}
 use Rattle.desk.specs.declared.answers.State.{State}
 use Rattle.desk.specs.ListQuestions.{Loading}

@@ -1,13 +1,13 @@
 -- An array that a loop fills from the front, and a list by its places.
 -- Assumes nothing.
 use mathlib.Core.Path.{_≡_, refl, ap, sym, _∙_}
-use mathlib.Core.List.{List, _∷_, [], _++_, append-assoc}
+use mathlib.Core.List.{List, _∷_, []}
 use mathlib.Core.Logic.{inl, inr}
 use Prim.Native.Nat.{ℕ, zero, suc, _+_, _≤_, _<_}
 use native.Mathlib.Numerals.{add-one}
 use native.Mathlib.Omega.{arith}
-use lib.ListN.{length, take, drop, set, getD, length-append, length-drop, length-set, List·getD-append}
-use lib.Seq.{take-suc-set, take-all, drop-cons, set-at, getD-at}
+use lib.ListN.{length, take, set, getD, length-append, length-set, List·getD-append}
+use lib.Seq.{take-suc-set, take-all, getD-at}
 use Rattle.laws.specs.Sums.{tabulate}
 use Rattle.laws.proofs.Cases.{lt-or-last}
 
@@ -54,34 +54,3 @@ tabulate-at (suc n) f i h =
           ∙ tabulate-at n f i less
       | inr last ↦ getD-at (tabulate n f) (f n) [] 0 i (tabulate-length n f ∙ sym last) ∙ ap f (sym last)
     ]
-
--- ---- a buffer that a loop overlays from the front: what lies behind stays
-
-pub record Overlaid (f : ℕ → ℕ) (before a : List ℕ) (k : ℕ) : Type 0 where
-  pub within : k ≤ length before
-  pub is : a ≡ tabulate k f ++ drop k before
-
-pub overlaid-none : (f : ℕ → ℕ) (a : List ℕ) → Overlaid f a a 0
-unfolding tabulate
-overlaid-none f a = record { within = omega arith; is = refl }
-
-module _ {f : ℕ → ℕ} {before a : List ℕ} {k : ℕ} (so-far : Overlaid f before a k) where
-  pub overlaid-long : length a ≡ length before
-  overlaid-long =
-      ap length (so-far .is)
-      ∙ length-append (tabulate k f) (drop k before)
-      ∙ omega (arith, tabulate-length k f, length-drop k before, so-far .within)
-
-  pub overlaid-turn : (v : ℕ) → k < length before → v ≡ f k → Overlaid f before (set a k v) (k + 1)
-  unfolding tabulate
-  overlaid-turn v room here = record { within = omega arith; is = rw (so-far .is, add-one) placed }
-    where
-      placed : set (tabulate k f ++ drop k before) k v ≡ tabulate (suc k) f ++ drop (suc k) before
-      placed =
-          rw (
-            drop-cons before k 0 room,
-            set-at (tabulate k f) (getD before k 0) (drop (suc k) before) v k
-                (tabulate-length k f),
-            here,
-          )
-          (sym (append-assoc (tabulate k f) (f k ∷ []) (drop (suc k) before)))

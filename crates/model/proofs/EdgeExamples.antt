@@ -1,5 +1,5 @@
--- Small tables that meet what the laws about the response ask: late after a round, late before any, and a value equal
--- to D that is repeated and one that grows. Sporadic tasks are written (E,D,P).
+-- Small tables at the edges of the response: late after a round, late before any, and a value equal to D that is
+-- repeated and one that grows. Sporadic tasks are written (E,D,P).
 -- Assumes nothing.
 use mathlib.Core.Path.{_≡_, refl}
 use Prim.Native.Nat.{ℕ, zero, suc}

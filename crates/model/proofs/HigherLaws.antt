@@ -3,18 +3,12 @@
 -- Assumes nothing.
 use mathlib.Core.Path.{_≡_, refl, sym, _∙_, subst}
 use Prim.Native.Nat.{ℕ}
-use Rattle.laws.proofs.SumLaws.{sum-zero, sum-mono}
+use Rattle.laws.proofs.SumLaws.{sum-mono}
 use Rattle.model.specs.Task.{Table}
 use Rattle.model.specs.Response.{Response, response-by, share-of, higher-share, response}
 use Rattle.model.specs.ResponseMeaning.{Never-falls, Says}
 use Rattle.model.proofs.ResponseLaws.{response-says, says-only}
 use Rattle.model.proofs.ShareLaws.{share-mono}
-
--- ---- the shares: no task stands above task 0
-
-pub higher-none : (table : Table) (w : ℕ) → higher-share table 0 w ≡ 0
-unfolding higher-share
-higher-none table w = sum-zero _
 
 pub higher-never-falls : (table : Table) (k : ℕ) → Never-falls (higher-share table k)
 unfolding higher-share

@@ -38,7 +38,6 @@ pub mod SettleLaws
 pub mod ResponseLaws
 pub mod ShareLaws
 pub mod HigherLaws
-pub mod ResponseEdges
 pub mod EdgeExamples
 pub mod PeakStart
 pub mod ScheduleLaws

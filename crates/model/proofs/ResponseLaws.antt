@@ -10,7 +10,7 @@ use Rattle.laws.proofs.Cases.{lt-or-le}
 use Rattle.laws.proofs.SearchLaws.{Least, Right, least-right, least-is}
 use Rattle.model.specs.Response.{value, Response, on-time, late, settles, settled-at, response-by}
 use Rattle.model.specs.ResponseMeaning.{Never-falls, Rises-to, On-time, Late, Says}
-use Rattle.model.proofs.ValueLaws.{value-grows, value-mono, value-stays, value-climbs}
+use Rattle.model.proofs.ValueLaws.{value-mono, value-stays, value-climbs}
 use Rattle.model.proofs.SettleLaws.{settles-past, settles-again, settles-not, repeats-within, goes-within, goes-up, settled-late, settled-on-time, response-at}
 
 -- ---- what the response says
@@ -104,30 +104,3 @@ module _ (share : ℕ → ℕ) (e d : ℕ) where
       ∙ sym (found-at n (omega (arith, t .few)) (settles-again share e d n again)
       (λ m less. omega (arith, t .first m less, t .within)) (t .rises)
       ∙ settled-on-time share e d n within)
-
--- ---- the document's claims alone: that the values rise follows from them
-
-module _ {share : ℕ → ℕ} (falls-never : Never-falls share) (e d n : ℕ) where
-  rises-to : ((m : ℕ) → m < n → value share e m ≡ value share e n → ⊥) → Rises-to share e n
-  rises-to other m less =
-      elim (lt-or-le (value share e m) (value share e (suc m))) [
-        | inl up ↦ up
-        | inr flat ↦
-            let again : value share e (suc m) ≡ value share e m = omega (arith, value-grows falls-never e m) in
-            absurd (other m less (sym (value-stays share e m again n (omega arith))))
-      ]
-
-  pub first-past : d < value share e n → ((m : ℕ) → m < n → value share e m ≤ d)
-      → response-by share e d ≡ late (value share e n) n
-  first-past past within =
-      let rises = rises-to (λ m less same. omega (arith, within m less)) in
-      let few : n ≤ suc d = omega (arith, late-few share e d n rises within) in
-      found-at share e d n few (settles-past share e d n past) within rises ∙ settled-late share e d n past
-
-  pub first-repeated : value share e (suc n) ≡ value share e n → value share e n ≤ d
-      → ((m : ℕ) → m < n → value share e m ≡ value share e n → ⊥) → response-by share e d ≡ on-time (value share e n) n
-  first-repeated again within other =
-      let rises = rises-to other in
-      found-at share e d n (omega (arith, value-climbs share e n rises)) (settles-again share e d n again)
-      (λ m less. omega (arith, value-mono falls-never e m n (omega arith))) rises
-      ∙ settled-on-time share e d n within

@@ -3,14 +3,11 @@
 -- Assumes nothing.
 use mathlib.Core.Path.{_≡_, refl, sym, ap, _∙_}
 use mathlib.Core.List.{List, _++_}
-use mathlib.Core.Logic.{inl, inr}
 use Prim.Native.Nat.{ℕ, _+_, _-_, _≤_, _<_}
-use native.Mathlib.Omega.{arith}
 use lib.ListN.{length, take, drop}
 use lib.Seq.{drop-drop}
 use borrow.Author.Tests.{lt-ltb, le-ltb}
 use borrow.Rule.Slice.PartMut.{putMid, midOf}
-use Rattle.laws.proofs.Cases.{lt-or-le}
 use Rattle.model.specs.Answer.{answered, refused}
 use Rattle.overload.specs.declared.write.Written.the-variants.{Bytes, Refused}
 use Rattle.overload.specs.Place.{placed, Wrote}
@@ -32,17 +29,6 @@ module _ (buffer : List ℕ) (place : ℕ) (list : List ℕ) where
       placed buffer place list ≡ answered list
   unfolding placed
   placed-whole reached room = simp (le-ltb _ _ reached, le-ltb _ _ room)
-
-  -- both tests in one: whether the list would end past the buffer's end
-  pub placed-beyond : length buffer < place + length list → placed buffer place list ≡ refused 12 0
-  placed-beyond beyond =
-      elim (lt-or-le (length buffer) place) [
-        | inl past ↦ placed-past past
-        | inr reached ↦ placed-short reached (omega arith)
-      ]
-
-  pub placed-within : place + length list ≤ length buffer → placed buffer place list ≡ answered list
-  placed-within within = placed-whole (omega arith) (omega arith)
 
   -- ---- the ways out
 

@@ -3,7 +3,6 @@
 -- Assumes nothing.
 use mathlib.Core.Bool.{Bool, false}
 use mathlib.Core.Path.{_≡_}
-use mathlib.Core.List.{List}
 use Prim.Native.Nat.{ℕ}
 use lib.Dec.{T}
 use Rattle.laws.specs.Sums.{sum, greatest}
@@ -26,7 +25,7 @@ use Rattle.response.specs.Deadlines.{first-above}
 use Rattle.desk.specs.Questions.{demand-asked, work-asked, margin-asked, verdict-asked, response-asked, overload-asked}
 use Rattle.desk.specs.ListQuestions.{replay-asked}
 use Rattle.promise.specs.Tables.{A, B, twenty}
-use Rattle.promise.specs.Asked.{Question, row}
+use Rattle.promise.specs.Asked.{row}
 use Rattle.promise.specs.Cases.{Case, Is-given, times, tasks, cases, Cases-given}
 use Rattle.promise.proofs.SameLaws.{same-answer, same-answer-is}
 use Rattle.promise.proofs.RowLaws.{is-byte, right, rows-right}

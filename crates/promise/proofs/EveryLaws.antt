@@ -9,7 +9,7 @@ use Prim.Native.Nat.{ℕ, suc}
 use native.Mathlib.Omega.{arith}
 use lib.Dec.{ltb}
 use borrow.Author.Tests.{ltb-true, ne-eqb}
-use Rattle.laws.specs.Ladder.{Breaks, all-numbers}
+use Rattle.laws.specs.Ladder.{all-numbers}
 use Rattle.laws.specs.Search.{at, nowhere}
 use Rattle.laws.proofs.Every.{and-true-left, and-true-right}
 use Rattle.laws.proofs.LadderLaws.{breaks-number}
@@ -31,7 +31,7 @@ use Rattle.desk.specs.FlatList.{seen, flat-written, flat-listed, flat-ending}
 use Rattle.desk.specs.FlatBench.{flat-loaded}
 use lib.ListN.{length}
 use Rattle.promise.specs.Given.{Given, List-given, Exactly, last-refusal, Numbers-one}
-use Rattle.promise.specs.Forms.{Form, read-back, shape-form, amount-form, margin-form, window-form, verdict-form, response-form, size-form, written-form, listed-form, loading-form, ending-form}
+use Rattle.promise.specs.Forms.{Form, read-back, amount-form}
 use Rattle.promise.specs.Asked.{Question, read, demand, work, margin, window, verdict, response, overload-size, overload, list, load, replay, row}
 use Rattle.promise.specs.Every.{Every-question}
 use Rattle.promise.proofs.OrderExact.{order-exact}

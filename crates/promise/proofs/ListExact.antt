@@ -2,15 +2,14 @@
 -- exactly where document 01 names that refusal. And what a replay's answer says of the machine.
 -- Assumes nothing.
 use Prim.Native.Nat.{ℕ}
-use mathlib.Core.Path.{_≡_, refl, ap, subst, _∙_}
+use mathlib.Core.Path.{_≡_, refl, subst, _∙_}
 use mathlib.Core.Logic.{inl, inr}
-use mathlib.Core.List.{List, []}
-use native.Mathlib.Omega.{arith}
+use mathlib.Core.List.{List}
 use Rattle.model.specs.Task.{Table}
 use Rattle.model.specs.Request.{Requests}
 use Rattle.model.specs.Jobs.{jobs-of}
 use Rattle.model.specs.Machine.{sooner}
-use Rattle.model.specs.Replay.{Replayed, all-met, Says}
+use Rattle.model.specs.Replay.{Replayed, Says}
 use Rattle.model.specs.Answer.{Answer, answered, refused}
 use Rattle.table.specs.Bytes.{Bytes}
 use Rattle.table.specs.TableOf.{table-of}
@@ -21,11 +20,10 @@ use Rattle.requests.specs.declared.reader.Checked.{Checked}
 use Rattle.requests.specs.declared.reader.Checked.the-variants.{Legal, Refused}
 use Rattle.requests.specs.Entry.{list-of}
 use Rattle.requests.specs.Reader.{check-of}
-use Rattle.requests.specs.Accepted.{Accepted}
 use Rattle.requests.proofs.Exact.{check-good, good-check, check-refused, refused-check}
 use Rattle.bench.specs.Loaded.{run-whole, end-of}
 use Rattle.bench.specs.Meaning.{Ended}
-use Rattle.bench.proofs.ReplaySays.{accepted-replayable, run-ends, replay-empty}
+use Rattle.bench.proofs.ReplaySays.{accepted-replayable, run-ends}
 use Rattle.desk.specs.ListQuestions.{by-list, on-list, replays, loads, replay-asked}
 use Rattle.promise.specs.Given.{Both-good, List-given, Exactly}
 use Rattle.promise.proofs.TableLaws.{table-refused, table-asked, table-told}

@@ -10,11 +10,12 @@ use Rattle.model.specs.Demand.{demand, work, margin}
 use Rattle.model.specs.Verdict.{horizon, closing-window}
 use Rattle.model.specs.Meaning.{Window-says}
 use Rattle.model.specs.Request.{Has-frame}
+use Rattle.model.specs.Jobs.{jobs-of}
 use Rattle.model.specs.Response.{Response, higher-share, response}
 use Rattle.model.specs.ResponseMeaning as Recurrence
 use Rattle.model.specs.Answer.{answered}
 use Rattle.model.proofs.AllLaws.{margin-zero}
-use Rattle.model.proofs.HigherLaws.{response-right}
+use Rattle.model.proofs.HigherLaws.{response-right, response-only}
 use Rattle.model.proofs.WindowLaws.{window-says}
 use Rattle.table.specs.Bytes.{Bytes, records}
 use Rattle.table.specs.declared.reader.Shape.{Shape}
@@ -27,6 +28,7 @@ use Rattle.response.specs.Deadlines.{Within-P}
 use Rattle.desk.specs.Orders.{table-only, time-order, task-order, frame-order}
 use Rattle.desk.specs.Questions.{read-asked, one-task, demand-asked, work-asked, margin-asked, window-asked, response-asked}
 use Rattle.desk.specs.ListQuestions.{counts, replays, list-asked}
+use Rattle.bench.proofs.ReplaySays.{accepted-replayable, replay-only}
 use Rattle.promise.specs.Numbers.{Replayed-rightly, Numbers}
 use Rattle.promise.proofs.TableLaws.{well-judged}
 use Rattle.promise.proofs.ListExact.{good-answered, replay-means}
@@ -104,7 +106,13 @@ module _ (s : List ℕ) (well : WellFormed s) where
         verdict-is = well-judged s well;
         responses = frame-answered;
         responses-say = response-told;
+        responses-only = λ k i r has within says.
+            frame-answered k i has within ∙ ap answered (sym (response-only (table-of s) k i r says));
         counts = λ list accepted. good-answered counts s list (record { table-good = well; list-good = accepted });
         loads = loaded-rightly s bytes well;
         replays = replayed bytes;
+        replays-only = λ list r accepted says.
+            accepted-replayed s list well accepted
+            ∙ ap answered (sym (replay-only (jobs-of (table-of s) (list-of list))
+            (accepted-replayable (well-proper bytes well) list accepted) r says));
       }

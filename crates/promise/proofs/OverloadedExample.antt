@@ -12,7 +12,6 @@ use Rattle.model.specs.Schedule.{units}
 use Rattle.table.specs.Bytes.{record-of}
 use Rattle.table.specs.TableOf.{records-before, records-of, task-of, table-of}
 use Rattle.requests.specs.Entry.{entry-of, list-of}
-use Rattle.desk.specs.declared.answers.Written.{Written}
 use Rattle.desk.specs.Questions.{overload-asked}
 use Rattle.desk.specs.Flat.{none}
 use Rattle.desk.specs.FlatList.{flat-written, Flat-wrote}

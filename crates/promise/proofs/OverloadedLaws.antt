@@ -21,6 +21,7 @@ use Rattle.table.specs.WellFormed.{WellFormed}
 use Rattle.table.proofs.TaskLaws.{well-proper}
 use Rattle.requests.specs.Entry.{list-of}
 use Rattle.requests.specs.Accepted.{Accepted}
+use Rattle.requests.proofs.LawfulLaws.{lawful-accepted}
 use Rattle.overload.specs.Shows.{Shows}
 use Rattle.desk.specs.declared.answers.Written.{Written}
 use Rattle.desk.specs.Orders.{Overloaded-at, list-at}
@@ -87,5 +88,6 @@ module _ (s : List ℕ) (bytes : Table.Bytes s) {t : ℕ} {m : ℤ} {starts : Li
         legal = shows .legal;
         no-schedule = no-schedule jobs 0 t too-much;
         lawful = shows .lawful;
+        taken = lawful-accepted (shows .lawful);
         replays = replays-missed;
       }

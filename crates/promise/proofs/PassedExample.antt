@@ -11,9 +11,9 @@ use Rattle.laws.specs.Sums.{sum, tabulate}
 use Rattle.laws.specs.Search.{least-from}
 use Rattle.laws.specs.Reader.{read-on, read-all}
 use Rattle.laws.proofs.Cases.{lt-or-le}
-use Rattle.model.specs.Task.{Task, Proper}
-use Rattle.model.specs.Demand.{frame, offset}
-use Rattle.model.specs.Request.{Requests, Next, Legal, last-arrival}
+use Rattle.model.specs.Task.{Proper}
+use Rattle.model.specs.Demand.{frame}
+use Rattle.model.specs.Request.{Next, Legal, last-arrival}
 use Rattle.model.specs.Machine.{sooner, pick}
 use Rattle.model.specs.Replay.{all-met, last-tick}
 use Rattle.model.specs.Answer.{answered}

@@ -2,19 +2,17 @@
 -- Assumes nothing.
 use mathlib.Core.Path.{_≡_, refl}
 use mathlib.Core.Logic.{inl, inr}
-use mathlib.Core.List.{[], _∷_}
+use mathlib.Core.List.{[]}
 use Prim.Native.Nat.{ℕ}
-use lib.IntN.{pos}
 use Rattle.laws.specs.Sums.{sum, greatest}
 use Rattle.laws.specs.Search.{least-from}
 use Rattle.laws.specs.Reader.{read-on, read-all}
 use Rattle.model.specs.Demand.{frame, offset, counted}
 use Rattle.model.specs.Response.{value, late, settles, settled-at, response-by, peak-frame, share-of, higher-share, response}
 use Rattle.model.specs.Answer.{answered}
-use Rattle.model.proofs.ClosingLaws.{is-below, is-not-below}
 use Rattle.table.specs.Bytes.{record-of}
 use Rattle.table.specs.Reader.{reading-of}
-use Rattle.table.specs.TableOf.{records-before, records-of, task-of, table-of}
+use Rattle.table.specs.TableOf.{records-before, records-of, task-of}
 use Rattle.response.specs.Deadlines.{first-above}
 use Rattle.desk.specs.Orders.{writing-order}
 use Rattle.desk.specs.Questions.{response-asked}

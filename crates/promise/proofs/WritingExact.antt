@@ -8,7 +8,7 @@ use native.Mathlib.Omega.{arith}
 use lib.ListN.{length, take, drop, length-append, length-drop}
 use lib.Seq.{length-take-le, take-append-seam, drop-append-seam, drop-drop, take-at, drop-at}
 use Rattle.model.specs.Demand.{margin}
-use Rattle.model.specs.Verdict.{horizon, overloaded, starts, verdict}
+use Rattle.model.specs.Verdict.{overloaded, starts, verdict}
 use Rattle.model.specs.Answer.{Answer, answered, refused}
 use Rattle.model.proofs.OverloadVerdict.{verdict-over}
 use Rattle.table.specs.Bytes.{Bytes}
@@ -20,8 +20,8 @@ use Rattle.overload.specs.Shows.{Shows}
 use Rattle.overload.proofs.Shown.{list-shows}
 use Rattle.desk.specs.Orders.{size-order, writing-order, Overloaded-at, list-at, list-in, t-in}
 use Rattle.desk.specs.Questions.{verdict-asked, size-asked, overload-asked}
-use Rattle.promise.specs.Writing.{Writes, Holds-list, Leaves-behind}
-use Rattle.promise.proofs.TableLaws.{well-judged, answered-well}
+use Rattle.promise.specs.Writing.{Holds-list, Leaves-behind}
+use Rattle.promise.proofs.TableLaws.{well-judged}
 use Rattle.promise.proofs.OverloadVerdicts.{over-verdict}
 use Rattle.promise.proofs.OrdersRight.{size-right, writing-right}
 use Rattle.promise.proofs.OrderExact.{order-answered, order-kept}

@@ -13,7 +13,7 @@ use Rattle.model.specs.Verdict.{overloaded, fits, undecided}
 use Rattle.model.specs.Request.{Requests, Legal}
 use Rattle.model.specs.Jobs.{Jobs, jobs-of}
 use Rattle.model.specs.Machine.{sooner, left-at}
-use Rattle.model.specs.Replay.{missed, all-met, Missed}
+use Rattle.model.specs.Replay.{all-met, Missed}
 use Rattle.model.specs.Response.{on-time, late, response-by, response}
 use Rattle.model.specs.Schedule.{Schedule, Unfinished}
 use Rattle.model.specs.Service.{machine-serves}

@@ -51,7 +51,13 @@ pub record Numbers (s : List ℕ) : Type 0 where
   -- which says of the recurrence what the document says: a value that repeats, or passes D, and its index
   pub responses-say : (k i : ℕ) (r : Response) → response-asked s k i ≡ answered r
       → Recurrence.Says (higher-share (table-of s) k) (table-of s .task k .E i) (table-of s .task k .D i) r
+  -- and whatever says that of a frame is its answer
+  pub responses-only : (k i : ℕ) (r : Response) → Has-frame (table-of s) k i → Within-P s (records s)
+      → Recurrence.Says (higher-share (table-of s) k) (table-of s .task k .E i) (table-of s .task k .D i) r
+      → response-asked s k i ≡ answered r
   -- of bytes that are a list of the table
   pub counts : (list : List ℕ) → Accepted (table-of s) list → list-asked s list ≡ answered (records list)
   pub loads : (list : List ℕ) → Accepted (table-of s) list → Loaded-rightly s list
   pub replays : (list : List ℕ) → Accepted (table-of s) list → Replayed-rightly s list
+  pub replays-only : (list : List ℕ) (r : Replayed) → Accepted (table-of s) list
+      → (let jobs = jobs-of (table-of s) (list-of list) in Says jobs (sooner jobs) r) → replay-asked s list ≡ answered r

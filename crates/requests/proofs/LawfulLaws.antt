@@ -2,8 +2,7 @@
 -- are at most 128 records: document 01, "The replay bench".
 -- Assumes nothing.
 use Prim.Native.Nat.{ℕ, _*_, _≤_, _<_}
-use mathlib.Core.Path.{refl, sym, subst}
-use mathlib.Core.Logic.{inl}
+use mathlib.Core.Path.{sym, subst}
 use mathlib.Core.List.{List}
 use lib.ListN.{length}
 use native.Mathlib.Omega.{arith}
@@ -13,7 +12,6 @@ use Rattle.model.proofs.WovenLegal.{same-legal, same-sorted}
 use Rattle.table.specs.Bytes.{size, records}
 use Rattle.requests.specs.Entry.{most-requests, widest, bytes-of}
 use Rattle.requests.specs.Accepted.{Lawful, Accepted}
-use Rattle.requests.specs.Refusals.{Refused-with}
 use Rattle.requests.proofs.AcceptedLaws.{rules-good}
 use Rattle.requests.proofs.BytesLaws.{bytes-length, read-back, pads-zero}
 
@@ -47,7 +45,3 @@ module _ {table : Table} (list : Requests) (legal : Legal table list) (sorted : 
 pub lawful-accepted : {table : Table} {s : List ℕ} → Lawful table s → length s ≤ most-requests * size
     → Accepted table s
 lawful-accepted lawful few = record { long = record { few = few; whole = lawful .whole }; good = lawful .good }
-
-pub long-refused : (table : Table) (s : List ℕ) → most-requests * size < length s → Refused-with table s 10 0
-long-refused table s more =
-    inl (record { number-is = refl; index-is = refl; wrong = λ right. omega (arith, right .few) })

@@ -10,7 +10,7 @@ use native.Mathlib.Omega.{arith}
 use borrow.Author.Tests.{lt-ltb, le-ltb, ltb-true, ltb-false}
 use Rattle.laws.specs.Search.{Found, at, nowhere, least-from, place-or}
 use Rattle.laws.proofs.PlaceLaws.{least-at, least-none}
-use Rattle.laws.proofs.SearchLaws.{Right, least-right, least-is, none-is, Seeking, seeking-hit, seeking-on, seeking-end}
+use Rattle.laws.proofs.SearchLaws.{Right, least-right, least-is, Seeking, seeking-hit, seeking-on, seeking-end}
 use Rattle.table.specs.Bytes.{record-of}
 use Rattle.table.specs.declared.record.Record.{Record}
 use Rattle.response.specs.Deadlines.{above, first-above, Within-P, First-above}
@@ -65,10 +65,6 @@ module _ (s : List ℕ) (n : ℕ) where
         passes = lt-ltb _ _ (it .above);
         first = λ j low less. not-above j (it .first j less);
       })
-
-  pub none-above-is : Within-P s n → first-above n s ≡ nowhere
-  unfolding first-above
-  none-above-is none = none-is (above s) n 0 (λ j low less. not-above j (none j (omega arith)))
 
   pub above-told : Above-told s n (first-above n s)
   unfolding first-above

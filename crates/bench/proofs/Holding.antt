@@ -18,7 +18,7 @@ use Rattle.bench.specs.declared.state.Outcome.{Outcome}
 use Rattle.bench.specs.Rule.{jobs-in, next-in, less-one, moved-on, with-outcome}
 use Rattle.bench.specs.Loaded.{loaded}
 use Rattle.bench.specs.Ticked.{left-in, Late-in}
-use Rattle.bench.specs.Meaning.{Holds}
+use Rattle.bench.specs.BenchMeaning.{Holds}
 use Rattle.bench.proofs.LoadedLaws.{slots-at, slots-read, slots-past}
 use Rattle.bench.proofs.SlotLaws.{less-one-at}
 

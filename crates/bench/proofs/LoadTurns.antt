@@ -14,7 +14,7 @@ use Rattle.table.specs.Bytes.{size, records}
 use Rattle.table.specs.TableOf.{table-of}
 use Rattle.requests.specs.declared.entry.Entry.{Entry}
 use Rattle.requests.specs.Entry.{most-requests, entry-of, list-of}
-use Rattle.requests.specs.Rules.{Placed}
+use Rattle.requests.specs.ListRules.{Placed}
 use Rattle.requests.specs.Accepted.{Listed}
 use Rattle.requests.proofs.AcceptedLaws.{accepted-few, entry-room, accepted-placed}
 use Rattle.bench.specs.declared.load.Slot.{Slot}

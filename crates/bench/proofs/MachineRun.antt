@@ -18,7 +18,7 @@ use Rattle.bench.specs.declared.state.Outcome.the-variants.{Running, Mis
 use Rattle.bench.specs.Rule.{tick-of, run-of}
 use Rattle.bench.specs.Loaded.{loaded}
 use Rattle.bench.specs.Ticked.{left-in, Misses, None-late, Some-left, Ticked, stays, stops, meets, moves}
-use Rattle.bench.specs.Meaning.{Holds}
+use Rattle.bench.specs.BenchMeaning.{Holds}
 use Rattle.bench.proofs.TickLaws.{missed-stopped, met-stopped, run-none, run-more}
 use Rattle.bench.proofs.OneUnit.{tick-right, tick-stands}
 use Rattle.bench.proofs.Holding.{holds-start, holds-stopped, holds-moved, undone-inside, late-there, late-here}

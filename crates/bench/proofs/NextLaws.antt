@@ -6,7 +6,7 @@ use Prim.Native.Nat.{ℕ, suc, _+_, _≤_, _<_}
 use native.Mathlib.Numerals.{add-one}
 use native.Mathlib.Omega.{arith}
 use Rattle.laws.specs.Search.{at, nowhere, place-or}
-use Rattle.laws.proofs.PlaceLaws.{place-at, place-none}
+use Rattle.laws.proofs.FoundLaws.{place-at, place-none}
 use Rattle.model.specs.Jobs.{Jobs}
 use Rattle.model.specs.Machine.{sooner, ready, pick}
 use Rattle.model.proofs.PickLaws.{pick-start, pick-skips, pick-first, pick-wins, pick-keeps, pick-below}

@@ -18,7 +18,7 @@ use Rattle.bench.specs.declared.state.Bench.{Bench}
 use Rattle.bench.specs.declared.state.Outcome.{Outcome}
 use Rattle.bench.specs.declared.state.Outcome.the-variants.{Running, Missed, AllMet}
 use Rattle.bench.specs.Loaded.{loaded, run-whole, answer-of, end-of, replay-of}
-use Rattle.bench.specs.Meaning.{Replayable, Ended}
+use Rattle.bench.specs.BenchMeaning.{Replayable, Ended}
 use Rattle.bench.proofs.TickLaws.{missed-stopped, met-stopped}
 use Rattle.bench.proofs.MachineRun.{Behind, Stage, runs, missed, met, run-stage}
 

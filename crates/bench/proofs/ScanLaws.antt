@@ -7,7 +7,7 @@ use lib.ListN.{getD}
 use borrow.Author.Tests.{ltb-true}
 use Rattle.laws.specs.Search.{at, nowhere, least-from, place-or}
 use Rattle.laws.proofs.Every.{and-true-right}
-use Rattle.laws.proofs.PlaceLaws.{place-at, place-none, least-at, least-none}
+use Rattle.laws.proofs.FoundLaws.{place-at, place-none, least-at, least-none}
 use Rattle.model.specs.Replay.{last-tick}
 use Rattle.model.proofs.PickLaws.{pick-below, pick-passes}
 use Rattle.requests.specs.Entry.{most-requests}

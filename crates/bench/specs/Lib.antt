@@ -1,6 +1,6 @@
 pub mod Rule
 pub mod Loaded
 pub mod Scan
-pub mod Written
+pub mod ReplayWritten
 pub mod Ticked
-pub mod Meaning
+pub mod BenchMeaning

@@ -2,7 +2,7 @@
 use crate::state::Bench;
 use crate::state::Outcome;
 use requests::entry::Entry;
-use requests::reader::MOST_REQUESTS;
+use requests::list_reader::MOST_REQUESTS;
 use table::plan::Plan;
 ghost use mathlib.Core.Path.{_≡_};
 ghost use Rattle.model.specs.Jobs.{jobs-of};
@@ -10,7 +10,7 @@ ghost use Rattle.table.specs.Ready.{Ready};
 ghost use Rattle.table.specs.TableOf.{table-of};
 ghost use Rattle.requests.specs.Accepted.{Listed};
 ghost use Rattle.requests.specs.Entry.{list-of};
-ghost use Rattle.requests.specs.Rules.{Placed};
+ghost use Rattle.requests.specs.ListRules.{Placed};
 ghost use Rattle.bench.specs.Loaded.{loaded, no-jobs, Slot-is};
 
 // The bench with nothing to do.

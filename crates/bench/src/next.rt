@@ -1,5 +1,5 @@
 // The request that a tick serves: of those that are ready, the first in the order.
-use requests::reader::MOST_REQUESTS;
+use requests::list_reader::MOST_REQUESTS;
 ghost use mathlib.Core.Path.{_≡_};
 ghost use Prim.Native.Nat.{_+_, _<_};
 ghost use Rattle.laws.specs.Search.{place-or};

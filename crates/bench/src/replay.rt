@@ -3,7 +3,7 @@ use crate::state::Bench;
 use crate::state::Outcome;
 ghost use mathlib.Core.Path.{_≡_};
 ghost use Rattle.bench.specs.Loaded.{answer-of, end-of};
-ghost use Rattle.bench.specs.Written.{replayed-of};
+ghost use Rattle.bench.specs.ReplayWritten.{replayed-of};
 
 // What a replay answers: the miss with its tick and record index, or *all met* with the tick after the last unit.
 pub enum Replayed {

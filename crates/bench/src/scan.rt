@@ -1,5 +1,5 @@
 // Scans of the bench's slots. Each answers an index, or MOST_REQUESTS for none.
-use requests::reader::MOST_REQUESTS;
+use requests::list_reader::MOST_REQUESTS;
 ghost use mathlib.Core.Path.{_≡_};
 ghost use Rattle.laws.specs.Search.{place-or, least-from};
 ghost use Rattle.requests.specs.Entry.{most-requests};

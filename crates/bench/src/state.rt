@@ -1,5 +1,5 @@
 // The bench's state: document 01, "The replay bench".
-use requests::reader::MOST_REQUESTS;
+use requests::list_reader::MOST_REQUESTS;
 
 // "All runs end by tick 131,070."
 pub const LAST_TICK: u32 = 131070;

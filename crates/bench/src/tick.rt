@@ -5,7 +5,7 @@ use crate::scan::first_left;
 use crate::state::Bench;
 use crate::state::LAST_TICK;
 use crate::state::Outcome;
-use requests::reader::MOST_REQUESTS;
+use requests::list_reader::MOST_REQUESTS;
 ghost use mathlib.Core.Path.{_≡_};
 ghost use Rattle.laws.specs.Search.{at};
 ghost use Rattle.bench.specs.Rule.{with-outcome, moved-on, less-one, tick-of};

@@ -15,11 +15,11 @@ use Rattle.table.specs.declared.reader.Shape.{Shape}
 use Rattle.table.specs.declared.reader.Refusal.{Refusal}
 use Rattle.table.specs.declared.reader.Reading.{Reading}
 use Rattle.table.specs.declared.reader.Reading.the-variants as reading
-use Rattle.table.specs.Reader.{reading-of, refusal-in}
+use Rattle.table.specs.TableReader.{reading-of, refusal-in}
 use Rattle.table.specs.Bytes.{size, most-records}
 use Rattle.table.specs.TableOf.{table-of, plan-of}
 use Rattle.table.specs.declared.plan.Plan.{Plan}
-use Rattle.table.proofs.Exact.{shaped}
+use Rattle.table.proofs.TableReaderExact.{shaped}
 use Rattle.table.proofs.ReadyLaws.{ready-read, ready-tasks}
 use Rattle.desk.specs.Questions.{after-reading, read-asked, one-task, margin-asked, window-asked, verdict-asked}
 

@@ -17,11 +17,11 @@ use Rattle.model.specs.Replay as Replay
 use Rattle.model.specs.Answer.{Answer, answered, refused}
 use Rattle.table.specs.declared.reader.Refusal.{Refusal}
 use Rattle.verdict.specs.declared.judge.Verdict.{Verdict}
-use Rattle.verdict.specs.Written.{closing-of, judged-of}
-use Rattle.response.specs.Written.{response-of}
+use Rattle.verdict.specs.VerdictWritten.{closing-of, judged-of}
+use Rattle.response.specs.ResponseWritten.{response-of}
 use Rattle.overload.specs.declared.write.Written as write
 use Rattle.overload.specs.Place.{written-of, Wrote}
-use Rattle.bench.specs.Written.{replayed-of}
+use Rattle.bench.specs.ReplayWritten.{replayed-of}
 use Rattle.desk.specs.declared.answers.Written.{Written}
 use Rattle.desk.specs.Flat.{flat-window}
 use Rattle.desk.specs.FlatVerdict.{flat-verdict, flat-response}
@@ -33,7 +33,8 @@ unfolding laid-closing flat-window
 closing-laid (at w) = refl
 closing-laid nowhere = refl
 
-pub verdict-laid : (v : Rule.Verdict) → laid-verdict (judged-of v .verdict) (judged-of v .starts) ≡ flat-verdict (answered v)
+pub verdict-laid : (v : Rule.Verdict)
+    → laid-verdict (judged-of v .verdict) (judged-of v .starts) ≡ flat-verdict (answered v)
 unfolding laid-verdict flat-verdict
 verdict-laid (Rule.overloaded t m starts) = refl
 verdict-laid (Rule.fits window m t) = refl
@@ -70,7 +71,8 @@ written-laid (answered list) = refl
 written-laid (refused number index) = refl
 
 -- what was written in the writer's own words
-pub wrote-laid : {buffer : List ℕ} {place : ℕ} {said : Answer (List ℕ)} {w : write.Written} {after : List ℕ} {r : Written}
+pub wrote-laid : {buffer : List ℕ} {place : ℕ} {said : Answer (List ℕ)} {w : write.Written} {after : List ℕ}
+    {r : Written}
     → Wrote buffer place said w after → r ≡ laid-written w → Flat-wrote buffer place said r after
 wrote-laid {said = said} wrote is =
     record { answer-is = is ∙ ap laid-written (wrote .answer-is) ∙ written-laid said; buffer-is = wrote .buffer-is }

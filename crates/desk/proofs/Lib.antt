@@ -2,6 +2,6 @@ pub mod AskLaws
 pub mod LaidLaws
 pub mod ListLaws
 pub mod LoadLaws
-pub mod ResponseLaws
-pub mod TickLaws
+pub mod ResponseWays
+pub mod FlatTickLaws
 pub mod WritingLaws

@@ -9,16 +9,16 @@ use Rattle.model.specs.Answer.{answered, refused}
 use Rattle.table.specs.declared.reader.Shape.{Shape}
 use Rattle.table.specs.declared.reader.Refusal.{Refusal}
 use Rattle.table.specs.declared.reader.Reading.the-variants as reading
-use Rattle.table.specs.Reader.{reading-of}
+use Rattle.table.specs.TableReader.{reading-of}
 use Rattle.table.specs.TableOf.{table-of}
-use Rattle.table.proofs.Exact.{shaped}
+use Rattle.table.proofs.TableReaderExact.{shaped}
 use Rattle.table.proofs.Rising.{few-tasks}
-use Rattle.requests.specs.declared.reader.Checked.{Checked}
-use Rattle.requests.specs.declared.reader.Checked.the-variants.{Legal, Refused}
+use Rattle.requests.specs.declared.list_reader.Checked.{Checked}
+use Rattle.requests.specs.declared.list_reader.Checked.the-variants.{Legal, Refused}
 use Rattle.requests.specs.Entry.{list-of}
-use Rattle.requests.specs.Reader.{check-of, refusal-in}
+use Rattle.requests.specs.ListReader.{check-of, refusal-in}
 use Rattle.requests.specs.Accepted.{Listed}
-use Rattle.requests.proofs.Exact.{check-count}
+use Rattle.requests.proofs.ListReaderExact.{check-count}
 use Rattle.requests.proofs.AcceptedLaws.{listed}
 use Rattle.desk.specs.ListQuestions.{on-list}
 

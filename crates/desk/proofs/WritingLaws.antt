@@ -20,13 +20,13 @@ use Rattle.table.specs.Bytes.{Bytes}
 use Rattle.table.specs.declared.reader.Shape.{Shape}
 use Rattle.table.specs.declared.reader.Reading.the-variants as reading
 use Rattle.table.specs.declared.plan.Plan.{Plan}
-use Rattle.table.specs.Reader.{reading-of}
+use Rattle.table.specs.TableReader.{reading-of}
 use Rattle.table.specs.Ready.{Ready}
 use Rattle.table.specs.TableOf.{table-of}
 use Rattle.table.proofs.ReadyLaws.{ready-proper}
 use Rattle.verdict.specs.declared.judge.Judged.{Judged}
 use Rattle.verdict.specs.declared.judge.Verdict.the-variants.{Overloaded}
-use Rattle.verdict.specs.Written.{judged-of}
+use Rattle.verdict.specs.VerdictWritten.{judged-of}
 use Rattle.verdict.proofs.judge.Verdict.{the-type}
 use Rattle.overload.specs.Counts.{Asked}
 use Rattle.overload.specs.Place.{placed}

@@ -1,5 +1,5 @@
 -- The document's answers laid flat, one case for each: which number stands for which answer, and what every field is.
--- Where a question is refused, every field but the refusal is zero, and so is every field that an answer has no use for.
+-- Where a question is refused, every field but the refusal is zero; so is every field that an answer has no use for.
 -- Here the refusal, and what a table is asked for one number.
 -- Assumes nothing.
 use mathlib.Core.Bool.{true, false}

@@ -1,5 +1,5 @@
--- The inner answers laid flat as they come, before it is said what they mean: closing window, verdict, response, what was
--- written, ending.
+-- The inner answers laid flat as they come, before it is said what they mean: closing window, verdict, response, what
+-- was written, ending.
 -- Assumes nothing.
 use mathlib.Core.Bool.{true, false}
 use mathlib.Core.List.{List}

@@ -8,10 +8,10 @@ use Rattle.model.specs.Request.{Requests}
 use Rattle.model.specs.Jobs.{jobs-of}
 use Rattle.model.specs.Replay.{Replayed}
 use Rattle.model.specs.Answer.{Answer, answered, refused}
-use Rattle.requests.specs.declared.reader.Checked.{Checked}
-use Rattle.requests.specs.declared.reader.Checked.the-variants as checked
+use Rattle.requests.specs.declared.list_reader.Checked.{Checked}
+use Rattle.requests.specs.declared.list_reader.Checked.the-variants as checked
 use Rattle.requests.specs.Entry.{list-of}
-use Rattle.requests.specs.Reader.{check-of}
+use Rattle.requests.specs.ListReader.{check-of}
 use Rattle.bench.specs.declared.state.Bench.{Bench}
 use Rattle.bench.specs.Loaded.{loaded, replay-of}
 use Rattle.desk.specs.Questions.{on-table}

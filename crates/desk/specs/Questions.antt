@@ -1,5 +1,5 @@
--- The meaning of each question that is asked of a table's raw bytes: document 01, "What the desk computes" and "When the
--- desk says no": "Tables are tested first", then the question's own order, then the answer.
+-- The meaning of each question that is asked of a table's raw bytes: document 01, "What the desk computes" and "When
+-- the desk says no": "Tables are tested first", then the question's own order, then the answer.
 -- Assumes nothing.
 use Prim.Native.Nat.{ℕ}
 use mathlib.Core.List.{List}
@@ -16,7 +16,7 @@ use Rattle.table.specs.declared.reader.Shape.{Shape}
 use Rattle.table.specs.declared.reader.Reading.{Reading}
 use Rattle.table.specs.declared.reader.Reading.the-variants as reading
 use Rattle.table.specs.Bytes.{records}
-use Rattle.table.specs.Reader.{reading-of}
+use Rattle.table.specs.TableReader.{reading-of}
 use Rattle.table.specs.TableOf.{table-of}
 use Rattle.desk.specs.Orders.{Order, table-only, time-order, task-order, frame-order, size-order, writing-order, list-in}
 

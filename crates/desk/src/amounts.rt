@@ -7,7 +7,7 @@ use crate::limits::HORIZON;
 use crate::refuse::refuse;
 use table::reader::Reading;
 ghost use mathlib.Core.Path.{_≡_};
-ghost use Rattle.table.specs.Reader.{reading-of};
+ghost use Rattle.table.specs.TableReader.{reading-of};
 ghost use Rattle.table.specs.declared.reader.Reading.the-variants.{Table};
 ghost use Rattle.sums.specs.Sized.{most-by};
 ghost use Rattle.desk.specs.Questions.{read-asked, one-task, demand-asked, work-asked, margin-asked};

@@ -16,9 +16,9 @@
 // bytes: what lies between two fields may be anything. Functions and answers share their names; in C++ too an answer's
 // type is written with `struct` before it.
 //
-// How long an answer takes is not promised: a verdict walks t by t and frame by frame, and takes seconds where P is very
-// short and no window closes early, with many such frames minutes. An overload list and its size take as long, for they
-// begin with the verdict.
+// How long an answer takes is not promised: a verdict walks t by t and frame by frame, and takes seconds where P is
+// very short and no window closes early, with many such frames minutes. An overload list and its size take as long, for
+// they begin with the verdict.
 pub mod limits;
 // What is answered.
 pub mod answers;

@@ -5,7 +5,7 @@ use table::record::SIZE;
 pub const HORIZON: u64 = 65536;
 
 // "arrivals 0 to 65,535": the latest in a request list.
-pub const LAST_ARRIVAL: u32 = requests::rules::LAST_ARRIVAL;
+pub const LAST_ARRIVAL: u32 = requests::list_rules::LAST_ARRIVAL;
 
 // "All runs end by tick 131,070": a bench that was loaded stops within `LAST_TICK` + 1 calls of limpidorsa_tick.
 pub const LAST_TICK: u32 = bench::state::LAST_TICK;
@@ -15,9 +15,9 @@ pub const MOST_RECORDS: usize = table::reader::MOST_RECORDS;
 
 pub const MOST_TABLE_BYTES: usize = MOST_RECORDS * SIZE;
 
-// "A list has 0 to 128 records": as many records, and bytes, a list may have that is replayed. An overload list may have
-// more.
-pub const MOST_REQUESTS: usize = requests::reader::MOST_REQUESTS;
+// "A list has 0 to 128 records": as many records, and bytes, a list may have that is replayed. An overload list may
+// have more.
+pub const MOST_REQUESTS: usize = requests::list_reader::MOST_REQUESTS;
 
 pub const MOST_LIST_BYTES: usize = MOST_REQUESTS * SIZE;
 

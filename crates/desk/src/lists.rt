@@ -4,7 +4,7 @@ use crate::answers::Listed;
 use crate::answers::Loaded;
 use crate::answers::NONE;
 use crate::ticks::flat_bench;
-use requests::reader::Checked;
+use requests::list_reader::Checked;
 use table::reader::Reading;
 ghost use mathlib.Core.Path.{_≡_};
 ghost use Rattle.desk.specs.ListQuestions.{list-asked, load-asked, replay-asked};
@@ -25,10 +25,10 @@ pub extern "C" fn limpidorsa_list<'a, 'b>(table: &'a [u8], list: &'b [u8]) -> Li
         };
     };
     let plan = table::plan::make_plan(table, shape.records, shape.tasks);
-    let checked = requests::reader::check_list(table, plan, list);
+    let checked = requests::list_reader::check_list(table, plan, list);
     let Checked::Legal(records) = checked else {
         return Listed {
-            refusal: requests::reader::refusal_of(checked),
+            refusal: requests::list_reader::refusal_of(checked),
             records: 0,
         };
     };
@@ -52,10 +52,10 @@ pub extern "C" fn limpidorsa_load<'a, 'b>(table: &'a [u8], list: &'b [u8]) -> Lo
         };
     };
     let plan = table::plan::make_plan(table, shape.records, shape.tasks);
-    let checked = requests::reader::check_list(table, plan, list);
+    let checked = requests::list_reader::check_list(table, plan, list);
     let Checked::Legal(records) = checked else {
         return Loaded {
-            refusal: requests::reader::refusal_of(checked),
+            refusal: requests::list_reader::refusal_of(checked),
             records: 0,
             state: flat_bench(bench::load::empty()),
         };
@@ -101,10 +101,10 @@ pub extern "C" fn limpidorsa_replay<'a, 'b>(table: &'a [u8], list: &'b [u8]) -> 
         };
     };
     let plan = table::plan::make_plan(table, shape.records, shape.tasks);
-    let checked = requests::reader::check_list(table, plan, list);
+    let checked = requests::list_reader::check_list(table, plan, list);
     let Checked::Legal(n) = checked else {
         return Ending {
-            refusal: requests::reader::refusal_of(checked),
+            refusal: requests::list_reader::refusal_of(checked),
             missed: false,
             tick: 0,
             index: 0,

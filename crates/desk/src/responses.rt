@@ -6,7 +6,7 @@ use table::reader::Reading;
 use table::reader::Refusal;
 use table::reader::Shape;
 ghost use mathlib.Core.Path.{_≡_};
-ghost use Rattle.table.specs.Reader.{reading-of};
+ghost use Rattle.table.specs.TableReader.{reading-of};
 ghost use Rattle.table.specs.declared.reader.Reading.the-variants.{Table};
 ghost use Rattle.desk.specs.Questions.{response-asked};
 ghost use Rattle.desk.specs.FlatVerdict.{flat-response};

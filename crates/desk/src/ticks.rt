@@ -67,8 +67,8 @@ fn running(s: State) -> Bench
     }
 }
 
-// One tick of the bench, of any state. A state whose outcome is not `RUNNING` comes back unchanged, and so does one past
-// `LAST_TICK`. A bench that was loaded stops within `LAST_TICK` + 1 calls, and holds its answer then.
+// One tick of the bench, of any state. A state whose outcome is not `RUNNING` comes back unchanged, and so does one
+// past `LAST_TICK`. A bench that was loaded stops within `LAST_TICK` + 1 calls, and holds its answer then.
 #[no_mangle]
 pub extern "C" fn limpidorsa_tick(state: State) -> State
     ensures { λ r. ⌜ r ≡ flat-tick state ⌝ }

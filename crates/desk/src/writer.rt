@@ -7,7 +7,7 @@ use table::reader::Reading;
 use table::reader::Shape;
 use verdict::judge::Verdict;
 ghost use mathlib.Core.Path.{_≡_};
-ghost use Rattle.table.specs.Reader.{reading-of};
+ghost use Rattle.table.specs.TableReader.{reading-of};
 ghost use Rattle.table.specs.declared.reader.Reading.the-variants.{Table};
 ghost use Rattle.desk.specs.Questions.{size-asked, overload-asked};
 ghost use Rattle.desk.specs.FlatList.{flat-written, Flat-wrote};
@@ -84,8 +84,8 @@ fn write_in<'a, 'b>(table: &'a [u8], shape: Shape, buffer: &'b mut [u8], place: 
 }
 
 // Writes the overload list of the table into the buffer, from the place on; bytes before it and after the list stay.
-// Refuses with 13, then 12. A call that is refused, with whatever number, changes no byte. limpidorsa_overload_size says
-// how many bytes the list has; it may have more records than a list that is replayed.
+// Refuses with 13, then 12. A call that is refused, with whatever number, changes no byte. limpidorsa_overload_size
+// says how many bytes the list has; it may have more records than a list that is replayed.
 #[no_mangle]
 pub extern "C" fn limpidorsa_overload<'a, 'b>(
     table: &'a [u8],

@@ -11,7 +11,7 @@ pub mod LastZero
 pub mod LeastLaws
 pub mod NthLaws
 pub mod PeakLaws
-pub mod PlaceLaws
+pub mod FoundLaws
 pub mod ReaderLaws
 pub mod ReaderExact
 pub mod SearchLaws

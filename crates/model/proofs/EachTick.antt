@@ -12,7 +12,7 @@ use Rattle.laws.proofs.Cases.{lt-or-le}
 use Rattle.laws.proofs.SumLaws.{gate}
 use Rattle.model.specs.Task.{Task, Table, ProperTable}
 use Rattle.model.specs.Demand.{counted, all-demands, all-work}
-use Rattle.model.specs.Meaning.{Undecided}
+use Rattle.model.specs.VerdictMeaning.{Undecided}
 use Rattle.model.proofs.CyclicLaws.{Moves, counted-zero, counted-on}
 use Rattle.model.proofs.DemandLaws.{demand-moves, work-moves}
 use Rattle.model.proofs.ClosingLaws.{not-below, overloads-no}

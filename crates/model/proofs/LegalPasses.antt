@@ -11,7 +11,7 @@ use Rattle.model.specs.Demand.{all-demands}
 use Rattle.model.specs.Request.{Requests, Legal}
 use Rattle.model.specs.Jobs.{jobs-of}
 use Rattle.model.specs.Service.{Passes}
-use Rattle.model.specs.Meaning.{Fits}
+use Rattle.model.specs.VerdictMeaning.{Fits}
 use Rattle.model.proofs.ClosingLaws.{no-overload, is-not-below}
 use Rattle.model.proofs.LegalSums.{legal-due, legal-came}
 

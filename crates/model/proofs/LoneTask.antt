@@ -11,7 +11,7 @@ use Rattle.laws.proofs.SumLaws.{greatest-ge, greatest-le}
 use Rattle.model.specs.Task.{Task, Table, Proper, ProperTable}
 use Rattle.model.specs.Demand.{frame, counted, demand, work, all-demands, all-work}
 use Rattle.model.specs.Verdict.{start}
-use Rattle.model.specs.Meaning.{Starts-at}
+use Rattle.model.specs.VerdictMeaning.{Starts-at}
 use Rattle.model.proofs.CyclicLaws.{Moves, frame-lt, counted-zero, counted-on}
 use Rattle.model.proofs.StartLaws.{start-right}
 

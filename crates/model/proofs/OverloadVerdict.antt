@@ -11,7 +11,7 @@ use Rattle.laws.proofs.Cases.{lt-or-le}
 use Rattle.model.specs.Task.{Table, ProperTable}
 use Rattle.model.specs.Demand.{all-demands}
 use Rattle.model.specs.Verdict.{overloaded, starts, verdict}
-use Rattle.model.specs.Meaning.{Overloaded, Means}
+use Rattle.model.specs.VerdictMeaning.{Overloaded, Means}
 use Rattle.model.proofs.ClosingLaws.{overloads-no, is-below}
 use Rattle.model.proofs.StartLaws.{starts-only}
 use Rattle.model.proofs.VerdictLaws.{verdict-means}

@@ -14,7 +14,7 @@ use Rattle.laws.proofs.PeakLaws.{Peaked, peaked-lowest, peak-of}
 use Rattle.model.specs.Task.{Task, Table, ProperTable}
 use Rattle.model.specs.Demand.{counted, lowest}
 use Rattle.model.specs.Verdict.{start, start-in, starts}
-use Rattle.model.specs.Meaning.{Starts-at}
+use Rattle.model.specs.VerdictMeaning.{Starts-at}
 
 -- what a loop over the starts finds is the lowest
 pub lowest-is : (task : Task) (reach : ℕ → ℕ) (t : ℕ) {sum place : ℕ}

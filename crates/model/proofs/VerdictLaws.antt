@@ -11,7 +11,7 @@ use Rattle.laws.proofs.LeastLaws.{First-least, first-least-right, first-least-o
 use Rattle.model.specs.Task.{Table, ProperTable}
 use Rattle.model.specs.Demand.{margin}
 use Rattle.model.specs.Verdict.{closing-window, overloads, first-overload, Verdict, overloaded, fits, undecided, overloaded-at, fits-at, judged, verdict}
-use Rattle.model.specs.Meaning.{Calm, Closing, Window-says, Overloaded, Fits, Undecided, Means}
+use Rattle.model.specs.VerdictMeaning.{Calm, Closing, Window-says, Overloaded, Fits, Undecided, Means}
 use Rattle.model.proofs.ClosingLaws.{below-zero, not-below, is-below, is-not-below}
 use Rattle.model.proofs.WindowLaws.{window-says, window-only}
 use Rattle.model.proofs.StartLaws.{starts-sixteen, starts-each, starts-past, starts-only}

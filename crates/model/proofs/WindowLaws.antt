@@ -7,7 +7,7 @@ use Rattle.laws.specs.Search.{Found, at, nowhere}
 use Rattle.laws.proofs.SearchLaws.{Least, Right, least-right, least-is, none-is}
 use Rattle.model.specs.Task.{Table}
 use Rattle.model.specs.Verdict.{closes, closing-window}
-use Rattle.model.specs.Meaning.{Closing, Window-says}
+use Rattle.model.specs.VerdictMeaning.{Closing, Window-says}
 use Rattle.model.proofs.ClosingLaws.{closes-yes, closes-no, does-close, stays-open}
 
 module _ (limit : ℕ) (table : Table) where

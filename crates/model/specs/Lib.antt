@@ -2,7 +2,7 @@ pub mod Task
 pub mod Demand
 pub mod Run
 pub mod Verdict
-pub mod Meaning
+pub mod VerdictMeaning
 pub mod Answer
 pub mod Request
 pub mod Jobs

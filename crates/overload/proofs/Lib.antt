@@ -3,7 +3,7 @@ pub mod PlaceLaws
 pub mod Shown
 pub mod CountLaws
 pub mod ManyLaws
-pub mod TotalLaws
+pub mod ArrayTotalLaws
 pub mod FrontLaws
 pub mod MoveLaws
 pub mod StandLaws

@@ -10,13 +10,13 @@ use denote.Ref.{now}
 use lib.ListN.{take, drop}
 use Rattle.model.specs.Verdict as Rule
 use Rattle.model.specs.Verdict.{horizon}
-use Rattle.model.specs.Meaning.{Undecided}
+use Rattle.model.specs.VerdictMeaning.{Undecided}
 use Rattle.model.specs.Request.{Legal}
 use Rattle.model.specs.Replay.{Replayed, missed, all-met}
 use Rattle.model.specs.Answer.{Answer, answered, refused}
 use Rattle.table.specs.Bytes.{Bytes}
 use Rattle.table.specs.TableOf.{table-of}
-use Rattle.table.specs.Refusals as Table
+use Rattle.table.specs.TableRefusals as Table
 use Rattle.requests.specs.Entry.{list-of}
 use Rattle.requests.specs.Accepted.{Accepted}
 use Rattle.desk.specs.declared.answers.Verdict.{Verdict}
@@ -152,7 +152,7 @@ module _ (s : Slice) (bytes : Bytes (now s)) where
         let same = read ∙ is-list in
         ap (λ (q : Ending). q .missed) is
         ∙ is-missed (replay-asked (now s) (now list))
-        (λ number index refuses. every-question (now s) bytes (Ask.replay (now list)) .numbered number index refuses .from)
+        (λ number index no. every-question (now s) bytes (Ask.replay (now list)) .numbered number index no .from)
         (λ tick asked.
         let accepts = subst (Accepted (table-of (now s))) same (replayed-good (now list) asked) in
         let apart : _≡_ {A = ℕ} 0 1 = cc (asked, same, over .replays accepts .is) in absurd (omega arith))

@@ -16,17 +16,17 @@ use Rattle.model.specs.Weave.{foremost, taken-by, next-at, weave}
 use Rattle.model.specs.Overload.{requests-by, overload-list}
 use Rattle.model.specs.Answer.{Answer, refused}
 use Rattle.table.specs.Bytes.{Bytes, record-of}
-use Rattle.table.specs.Reader.{reading-of}
+use Rattle.table.specs.TableReader.{reading-of}
 use Rattle.table.specs.TableOf.{records-before, records-of, task-of}
 use Rattle.requests.specs.Entry.{entry-of, bytes-to}
-use Rattle.requests.specs.Reader.{check-of}
+use Rattle.requests.specs.ListReader.{check-of}
 use Rattle.overload.specs.Place.{placed}
 use Rattle.response.specs.Deadlines.{first-above}
 use Rattle.desk.specs.Questions.{demand-asked, work-asked, margin-asked, verdict-asked, response-asked, overload-asked}
 use Rattle.desk.specs.ListQuestions.{replay-asked}
 use Rattle.promise.specs.Tables.{A, B, twenty}
 use Rattle.promise.specs.Asked.{row}
-use Rattle.promise.specs.Cases.{Case, Is-given, times, tasks, cases, Cases-given}
+use Rattle.promise.specs.RefusalCases.{Case, Is-given, times, tasks, cases, Cases-given}
 use Rattle.promise.proofs.SameLaws.{same-answer, same-answer-is}
 use Rattle.promise.proofs.RowLaws.{is-byte, right, rows-right}
 use Rattle.promise.proofs.EveryLaws.{every-question}

@@ -20,7 +20,7 @@ use Rattle.model.specs.Replay.{missed, all-met}
 use Rattle.model.specs.Answer.{Answer, answered, refused}
 use Rattle.table.specs.Bytes.{Bytes, records}
 use Rattle.table.specs.WellFormed as Tables
-use Rattle.table.specs.Refusals as Table
+use Rattle.table.specs.TableRefusals as Table
 use Rattle.requests.specs.Accepted as Lists
 use Rattle.desk.specs.Orders.{Order, table-only, time-order, task-order, frame-order, size-order, writing-order, list-in}
 use Rattle.desk.specs.Questions.{read-asked, demand-asked, work-asked, margin-asked, window-asked, verdict-asked, response-asked, size-asked, overload-asked}
@@ -33,7 +33,7 @@ use lib.ListN.{length}
 use Rattle.promise.specs.Given.{Given, List-given, Exactly, last-refusal, Numbers-one}
 use Rattle.promise.specs.Forms.{Form, read-back, amount-form}
 use Rattle.promise.specs.Asked.{Question, read, demand, work, margin, window, verdict, response, overload-size, overload, list, load, replay, row}
-use Rattle.promise.specs.Every.{Every-question}
+use Rattle.promise.specs.EveryQuestion.{Every-question}
 use Rattle.promise.proofs.OrderExact.{order-exact}
 use Rattle.promise.proofs.OrdersRight.{time-right, task-right, frame-right, size-right, writing-right}
 use Rattle.promise.proofs.ListExact.{list-exact}
@@ -46,8 +46,10 @@ module _ (s : List ℕ) (bytes : Bytes s) where
   unfolding read-asked demand-asked work-asked margin-asked window-asked verdict-asked response-asked size-asked
       overload-asked list-asked load-asked replay-asked
   exact read = order-exact s table-only (λ table. record { records = records s; tasks = table .tasks }) (λ well. tt)
-  exact (demand k t) = order-exact s (task-order k t) (λ table. Rule.demand (table .task k) t) (λ well. task-right s k t)
-  exact (work k w) = order-exact s (task-order k w) (λ table. Rule.work (table .task k) w) (λ well. task-right s k w)
+  exact (demand k t) =
+      order-exact s (task-order k t) (λ table. Rule.demand (table .task k) t) (λ well. task-right s k t)
+  exact (work k w) =
+      order-exact s (task-order k w) (λ table. Rule.work (table .task k) w) (λ well. task-right s k w)
   exact (margin t) = order-exact s (time-order t) (λ table. Rule.margin table t) (λ well. time-right s t)
   exact window = order-exact s table-only (Judge.closing-window Judge.horizon) (λ well. tt)
   exact verdict = order-exact s table-only (Judge.verdict Judge.horizon) (λ well. tt)
@@ -68,9 +70,10 @@ numbers-one n = ltb 0 n && ltb n (suc last-refusal)
 is-one : (number : ℕ) → numbers-one number ≡ true → Numbers-one number
 unfolding numbers-one
 is-one number is =
+    let past = suc last-refusal in
     record {
-      from = omega (arith, ltb-true 0 number (and-true-left (ltb 0 number) (ltb number (suc last-refusal)) is));
-      to = omega (arith, ltb-true number (suc last-refusal) (and-true-right (ltb 0 number) (ltb number (suc last-refusal)) is));
+      from = omega (arith, ltb-true 0 number (and-true-left (ltb 0 number) (ltb number past) is));
+      to = omega (arith, ltb-true number past (and-true-right (ltb 0 number) (ltb number past) is));
     }
 
 module _ (s : List ℕ) where
@@ -86,7 +89,8 @@ module _ (s : List ℕ) where
   list-numbered l number index (inr bad) =
       elim (bad .list-bad) [
         | inl long ↦ let is = long .number-is in record { from = omega arith; to = omega arith }
-        | inr broken ↦ is-one number (breaks-number (l, index) numbers-one (Lists.rules _) refl number 0 (broken .breaks))
+        | inr broken ↦
+            is-one number (breaks-number (l, index) numbers-one (Lists.rules _) refl number 0 (broken .breaks))
       ]
 
   order-numbered : (order : Order) → all-numbers numbers-one order ≡ true → (number index : ℕ)

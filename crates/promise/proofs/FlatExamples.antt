@@ -1,12 +1,12 @@
--- The flat verdicts of some tables, so that the promises to a caller are not about nothing: every number of a verdict is
--- met.
+-- The flat verdicts of some tables, so that the promises to a caller are not about nothing: every number of a verdict
+-- is met.
 -- Assumes nothing.
 use mathlib.Core.Path.{_≡_, refl, ap}
 use mathlib.Core.List.{[]}
 use lib.IntN.{pos, negsuc}
 use lib.ListN.{replicate}
 use Rattle.laws.specs.Reader.{read-all}
-use Rattle.table.specs.Reader.{reading-of}
+use Rattle.table.specs.TableReader.{reading-of}
 use Rattle.desk.specs.Questions.{verdict-asked}
 use Rattle.desk.specs.Flat.{none, refusal}
 use Rattle.desk.specs.FlatVerdict.{flat-verdict}

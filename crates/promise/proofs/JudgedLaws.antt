@@ -4,7 +4,7 @@ use mathlib.Core.Path.{_≡_, sym, ap, subst, _∙_}
 use mathlib.Core.List.{List}
 use Prim.Native.Nat.{ℕ}
 use Rattle.model.specs.Verdict.{horizon, Verdict, undecided, verdict}
-use Rattle.model.specs.Meaning.{Means}
+use Rattle.model.specs.VerdictMeaning.{Means}
 use Rattle.model.specs.Answer.{answered}
 use Rattle.model.proofs.VerdictLaws.{verdict-means, means-only}
 use Rattle.table.specs.Bytes.{Bytes}

@@ -8,7 +8,7 @@ use lib.IntN.{negsuc}
 use lib.ListN.{replicate, getD, getD-replicate}
 use Rattle.model.specs.Demand.{all-demands}
 use Rattle.model.specs.Verdict.{horizon, overloaded}
-use Rattle.model.specs.Meaning as Meaning
+use Rattle.model.specs.VerdictMeaning as Meaning
 use Rattle.model.specs.Answer.{answered}
 use Rattle.model.proofs.ClosingLaws.{overloads-yes, overloads-no, below-zero, not-below}
 use Rattle.model.proofs.LoneTask.{start-lone}

@@ -16,13 +16,13 @@ use Rattle.table.specs.TableOf.{table-of}
 use Rattle.table.specs.WellFormed.{WellFormed}
 use Rattle.table.proofs.Rising.{few-tasks}
 use Rattle.table.proofs.TaskLaws.{well-proper}
-use Rattle.requests.specs.declared.reader.Checked.{Checked}
-use Rattle.requests.specs.declared.reader.Checked.the-variants.{Legal, Refused}
+use Rattle.requests.specs.declared.list_reader.Checked.{Checked}
+use Rattle.requests.specs.declared.list_reader.Checked.the-variants.{Legal, Refused}
 use Rattle.requests.specs.Entry.{list-of}
-use Rattle.requests.specs.Reader.{check-of}
-use Rattle.requests.proofs.Exact.{check-good, good-check, check-refused, refused-check}
+use Rattle.requests.specs.ListReader.{check-of}
+use Rattle.requests.proofs.ListReaderExact.{check-good, good-check, check-refused, refused-check}
 use Rattle.bench.specs.Loaded.{run-whole, end-of}
-use Rattle.bench.specs.Meaning.{Ended}
+use Rattle.bench.specs.BenchMeaning.{Ended}
 use Rattle.bench.proofs.ReplaySays.{accepted-replayable, run-ends}
 use Rattle.desk.specs.ListQuestions.{by-list, on-list, replays, loads, replay-asked}
 use Rattle.promise.specs.Given.{Both-good, List-given, Exactly}

@@ -9,15 +9,15 @@ use Rattle.laws.specs.Reader.{read-on, read-all}
 use Rattle.laws.proofs.Every.{every}
 use Rattle.model.specs.Task.{Table, ProperTable}
 use Rattle.model.specs.Verdict.{horizon, Verdict}
-use Rattle.model.specs.Meaning.{Means}
+use Rattle.model.specs.VerdictMeaning.{Means}
 use Rattle.model.specs.Answer.{answered}
 use Rattle.model.proofs.LoneTask.{Lone}
 use Rattle.table.specs.declared.reader.Reading.the-variants as reading
 use Rattle.table.specs.Bytes.{Bytes, record-of}
-use Rattle.table.specs.Reader.{reading-of}
+use Rattle.table.specs.TableReader.{reading-of}
 use Rattle.table.specs.TableOf.{records-before, records-of, task-of, table-of}
 use Rattle.table.specs.WellFormed.{WellFormed}
-use Rattle.table.proofs.Exact.{read-good}
+use Rattle.table.proofs.TableReaderExact.{read-good}
 use Rattle.table.proofs.TaskLaws.{well-proper}
 use Rattle.desk.specs.Questions.{verdict-asked}
 use Rattle.promise.specs.Tables.{each-2, each-21846, each-32769, longest}

@@ -14,7 +14,7 @@ use Rattle.laws.proofs.SignedLaws.{sub-zero-is}
 use Rattle.laws.proofs.SignedOrder.{lt-test}
 use Rattle.model.specs.Demand.{all-demands, all-work, margin}
 use Rattle.model.specs.Verdict.{horizon, fits}
-use Rattle.model.specs.Meaning as Meaning
+use Rattle.model.specs.VerdictMeaning as Meaning
 use Rattle.model.specs.Answer.{answered}
 use Rattle.model.proofs.DemandLaws.{demand-moves, work-moves}
 use Rattle.model.proofs.ClosingLaws.{overloads-no, not-below, calm-always}

@@ -23,11 +23,11 @@ use Rattle.model.specs.Request.{last-arrival}
 use Rattle.model.specs.Machine.{sooner, pick}
 use Rattle.model.specs.Replay.{last-tick}
 use Rattle.table.specs.Bytes.{Bytes, record-of}
-use Rattle.table.specs.Reader.{reading-of}
+use Rattle.table.specs.TableReader.{reading-of}
 use Rattle.table.specs.TableOf.{records-before, records-of, task-of}
 use Rattle.table.proofs.TaskLaws.{well-proper}
 use Rattle.requests.specs.Entry.{entry-of, bytes-to}
-use Rattle.requests.specs.Reader.{check-of}
+use Rattle.requests.specs.ListReader.{check-of}
 use Rattle.bench.specs.Rule.{first-late, first-left, next-in, tick-of, run-of}
 use Rattle.bench.specs.Loaded.{slots-of, loaded, run-whole, end-of}
 use Rattle.response.specs.Deadlines.{first-above}

@@ -8,7 +8,7 @@ use Rattle.laws.specs.Search.{Found}
 use Rattle.model.specs.Task.{Task}
 use Rattle.model.specs.Demand.{demand, work, margin}
 use Rattle.model.specs.Verdict.{horizon, closing-window}
-use Rattle.model.specs.Meaning.{Window-says}
+use Rattle.model.specs.VerdictMeaning.{Window-says}
 use Rattle.model.specs.Request.{Has-frame}
 use Rattle.model.specs.Jobs.{jobs-of}
 use Rattle.model.specs.Response.{Response, higher-share, response}
@@ -77,9 +77,10 @@ module _ (s : List ℕ) (well : WellFormed s) where
       → Recurrence.Says (higher-share (table-of s) k) (table-of s .task k .E i) (table-of s .task k .D i) r
   unfolding response-asked
   response-told k i r is =
-      let (good, same, keeps) = order-kept s (frame-order k i) (λ table. response table k i) (λ good. frame-right s k i) is in
-      subst (Recurrence.Says (higher-share (table-of s) k) (table-of s .task k .E i) (table-of s .task k .D i)) (sym same)
-      (response-right (table-of s) k i)
+      let (good, same, keeps) =
+      order-kept s (frame-order k i) (λ table. response table k i) (λ good. frame-right s k i) is in
+      subst (Recurrence.Says (higher-share (table-of s) k) (table-of s .task k .E i) (table-of s .task k .D i))
+      (sym same) (response-right (table-of s) k i)
 
   window-told : (w : Found) → window-asked s ≡ answered w → Window-says horizon (table-of s) w
   window-told w asked =

@@ -1,5 +1,5 @@
--- One answer only, for every question's function: its contract is an equation with the answer laid flat, and the writer's
--- also with the bytes that it leaves in the buffer. One law, cited once for each.
+-- One answer only, for every question's function: its contract is an equation with the answer laid flat, and the
+-- writer's also with the bytes that it leaves in the buffer. One law, cited once for each.
 -- Assumes nothing.
 use mathlib.Core.Path.{_≡_, refl, sym, _∙_}
 use mathlib.Core.List.{List}
@@ -8,7 +8,7 @@ use base.Fml.{Lft}
 use denote.Ref.{now, at-last}
 use Rattle.promise.specs.Asked.{Question, read, demand, work, margin, window, verdict, response, overload-size, overload, list, load, replay, row}
 use Rattle.promise.specs.Contracts.{Slice, Free, Allows}
-use Rattle.promise.specs.Every.{One-answer}
+use Rattle.promise.specs.EveryQuestion.{One-answer}
 
 module _ (κ ℓ : Lft) (s other : Slice) where
   -- what the contract of a question's function tells, and a return that it allows
@@ -100,8 +100,11 @@ module _ (κ ℓ : Lft) (s other : Slice) where
         means = λ r after (x, wrote, left). rw (← lent) (wrote .answer-is);
         leaves = λ r after (x, wrote, left). left ∙ rw (← lent) (wrote .buffer-is);
         met =
-            rw (← lent)
-            ((s, (at-last other (row (now s) (overload (now other) place) .after), (place, tt))), record { answer-is = refl; buffer-is = refl }, refl);
+            rw (← lent) (
+              (s, (at-last other (row (now s) (overload (now other) place) .after), (place, tt))),
+              record { answer-is = refl; buffer-is = refl },
+              refl,
+            );
       }
   equation (list l) lent =
       record {

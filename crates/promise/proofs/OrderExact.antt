@@ -32,7 +32,8 @@ module _ {A : Type 0} (s : List ℕ) (order : Order) (ask : Table → A) (right 
   refuses number index (inl bad) = table-refused s by-order bad
   refuses number index (inr own) =
       table-asked s by-order (own .table-good)
-      ∙ climb-broken refused s s (answered (ask (table-of s))) order number index (right (own .table-good)) (own .breaks)
+      ∙ climb-broken refused s s (answered (ask (table-of s))) order number index (right (own .table-good))
+      (own .breaks)
 
   -- and back: of an answered question the bytes are a table that keeps the order
   pub order-kept : {value : A} → asked s order ask ≡ answered value

@@ -10,7 +10,7 @@ use Rattle.laws.specs.Search.{Found, at, nowhere, place-or}
 use Rattle.laws.proofs.LadderLaws.{Points, Caught, rung}
 use Rattle.laws.proofs.Tests.{Catches, catches-as, catches-or, catches-lt, catches-le}
 use Rattle.model.specs.Verdict.{horizon, Verdict, overloaded, fits, undecided, verdict}
-use Rattle.model.specs.Meaning.{Calm, Means}
+use Rattle.model.specs.VerdictMeaning.{Calm, Means}
 use Rattle.model.proofs.ClosingLaws.{is-below, is-not-below}
 use Rattle.model.proofs.FrameLaws.{catches-frame}
 use Rattle.model.proofs.VerdictLaws.{verdict-means}

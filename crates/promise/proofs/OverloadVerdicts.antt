@@ -7,7 +7,7 @@ use lib.IntN.{ℤ}
 use Rattle.model.specs.Task.{Table, ProperTable}
 use Rattle.model.specs.Demand.{margin}
 use Rattle.model.specs.Verdict.{horizon, overloaded, starts, verdict}
-use Rattle.model.specs.Meaning.{Overloaded}
+use Rattle.model.specs.VerdictMeaning.{Overloaded}
 use Rattle.model.proofs.StartLaws.{starts-sixteen, starts-each, starts-past}
 use Rattle.model.proofs.VerdictLaws.{means-only}
 use Rattle.desk.specs.Orders.{Overloaded-at}

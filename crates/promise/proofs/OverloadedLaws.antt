@@ -81,7 +81,7 @@ module _ (s : List ℕ) (bytes : Table.Bytes s) {t : ℕ} {m : ℤ} {starts : Li
   overloaded-shown =
       record {
         list = list;
-        size = over-size s bytes well at-t;
+        size-is = over-size s bytes well at-t;
         written = over-written s bytes well at-t;
         read-back = read-back;
         woven = shows .woven;

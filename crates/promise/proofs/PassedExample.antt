@@ -20,11 +20,11 @@ use Rattle.model.specs.Answer.{answered}
 use Rattle.model.proofs.CyclicLaws.{frame-lt, frame-next, offset-next, offset-late}
 use Rattle.model.proofs.DemandLaws.{demand-moves}
 use Rattle.table.specs.Bytes.{record-of}
-use Rattle.table.specs.Reader.{reading-of}
+use Rattle.table.specs.TableReader.{reading-of}
 use Rattle.table.specs.TableOf.{records-before, records-of, task-of, table-of}
 use Rattle.table.proofs.TaskLaws.{well-proper}
 use Rattle.requests.specs.Entry.{entry-of}
-use Rattle.requests.specs.Reader.{check-of}
+use Rattle.requests.specs.ListReader.{check-of}
 use Rattle.requests.specs.Accepted.{Accepted}
 use Rattle.bench.specs.Rule.{first-late, first-left, next-in, tick-of, run-of}
 use Rattle.bench.specs.Loaded.{slots-of, loaded, run-whole, end-of}

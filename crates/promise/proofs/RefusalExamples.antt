@@ -1,4 +1,5 @@
--- 13 of A, which is not overloaded, where there is no room either; no refusal of B with its list; and a frame that is late.
+-- 13 of A, which is not overloaded, where there is no room either; no refusal of B with its list; and a frame that is
+-- late.
 -- Assumes nothing.
 use mathlib.Core.Path.{_≡_, refl}
 use mathlib.Core.Logic.{inl, inr}
@@ -11,7 +12,7 @@ use Rattle.model.specs.Demand.{frame, offset, counted}
 use Rattle.model.specs.Response.{value, late, settles, settled-at, response-by, peak-frame, share-of, higher-share, response}
 use Rattle.model.specs.Answer.{answered}
 use Rattle.table.specs.Bytes.{record-of}
-use Rattle.table.specs.Reader.{reading-of}
+use Rattle.table.specs.TableReader.{reading-of}
 use Rattle.table.specs.TableOf.{records-before, records-of, task-of}
 use Rattle.response.specs.Deadlines.{first-above}
 use Rattle.desk.specs.Orders.{writing-order}
@@ -32,7 +33,12 @@ A-unwritten =
     let calm = judged-means A A-bytes (cited .A-fits .0) .calm in
     inr (record {
       table-good = well;
-      breaks = inl (record { number-is = refl; fails = λ (t, over). calm-none A A-bytes well calm t over; carries = refl });
+      breaks =
+          inl (record {
+            number-is = refl;
+            fails = λ (t, over). calm-none A A-bytes well calm t over;
+            carries = refl;
+          });
     })
 
 pub B-none : (number index : ℕ) → List-given B B-list number index → ⊥

@@ -1,5 +1,5 @@
--- One answer only, for each function that steps a bench: where a contract is an equation, two answers that it allows are
--- equal. One law, cited once for each.
+-- One answer only, for each function that steps a bench: where a contract is an equation, two answers that it allows
+-- are equal. One law, cited once for each.
 -- Assumes nothing.
 use mathlib.Core.Path.{_≡_, refl, sym, _∙_}
 use Rattle.promise.specs.Settled.{Settles, Settled-each}

@@ -1,4 +1,5 @@
--- A bench that is stepped from outside is the document's bench, after each tick; and the bench beside a refusal is zero.
+-- A bench that is stepped from outside is the document's bench, after each tick; and the bench beside a refusal is
+-- zero.
 -- Assumes nothing.
 use mathlib.Core.Path.{_≡_, refl, sym, ap, _∙_}
 use mathlib.Core.Logic.{⊎-elim}
@@ -15,7 +16,7 @@ use Rattle.bench.proofs.OneUnit.{tick-stands}
 use Rattle.bench.specs.Loaded.{slots-of, loaded}
 use Rattle.laws.specs.Sums.{tabulate}
 use Rattle.desk.specs.FlatBench.{outcome-number, missed-record, flat-bench, flat-tick}
-use Rattle.desk.proofs.TickLaws.{tick-stopped, tick-past, tick-running}
+use Rattle.desk.proofs.FlatTickLaws.{tick-stopped, tick-past, tick-running}
 use Rattle.promise.specs.Forms.{outcome-by, read-state}
 use Rattle.promise.specs.NothingLost.{flat-run, Stepped, Idle-zero}
 

@@ -10,11 +10,11 @@ use Rattle.model.specs.Verdict.{horizon, verdict}
 use Rattle.model.specs.Answer.{Answer, answered, refused}
 use Rattle.table.specs.TableOf.{table-of}
 use Rattle.table.specs.WellFormed.{WellFormed}
-use Rattle.table.specs.Refusals.{Refused-with}
+use Rattle.table.specs.TableRefusals.{Refused-with}
 use Rattle.table.specs.declared.reader.Reading.{Reading}
 use Rattle.table.specs.declared.reader.Reading.the-variants.{Table, Refused}
-use Rattle.table.specs.Reader.{reading-of}
-use Rattle.table.proofs.Exact.{read-good, good-read, read-refused, refused-read}
+use Rattle.table.specs.TableReader.{reading-of}
+use Rattle.table.proofs.TableReaderExact.{read-good, good-read, read-refused, refused-read}
 use Rattle.desk.specs.Questions.{on-table, verdict-asked}
 
 module _ {A : Type 0} (s : List ℕ) (ask : Model.Table → Answer A) where

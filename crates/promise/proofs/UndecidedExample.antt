@@ -8,7 +8,7 @@ use Prim.Native.Nat.{ℕ, suc, _-_, _*_, _≤_}
 use native.Mathlib.Omega.{arith}
 use lib.Dec.{lit≤}
 use Rattle.model.specs.Verdict.{horizon, undecided}
-use Rattle.model.specs.Meaning.{Undecided}
+use Rattle.model.specs.VerdictMeaning.{Undecided}
 use Rattle.model.specs.Answer.{answered}
 use Rattle.model.proofs.EachTick.{undecided-each}
 use Rattle.table.specs.TableOf.{table-of}

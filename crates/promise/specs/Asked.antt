@@ -1,6 +1,6 @@
--- Every question that may be asked of the bytes of a table, and a row for each: what the rules say to it, which refusals
--- the document gives it, how its answer is laid flat, and what it leaves in a lent buffer. A new question is a line of
--- `Question` and a row here, and a line each in Contracts.
+-- Every question that may be asked of the bytes of a table, and a row for each: what the rules say to it, which
+-- refusals the document gives it, how its answer is laid flat, and what it leaves in a lent buffer. A new question is a
+-- line of `Question` and a row here, and two lines in Contracts.
 -- Assumes nothing.
 use mathlib.Core.Path.{_≡_}
 use mathlib.Core.List.{List, []}
@@ -41,7 +41,14 @@ of-table {A} said Given form =
 
 abbrev of-list : {A : Type 0} → List ℕ → List ℕ → Answer A → Form A → Row
 of-list {A} s bytes said form =
-    record { Says = A; said = said; Given = List-given s bytes; form = form; Lends = λ other. other ≡ bytes; after = [] }
+    record {
+      Says = A;
+      said = said;
+      Given = List-given s bytes;
+      form = form;
+      Lends = λ other. other ≡ bytes;
+      after = [];
+    }
 
 abbrev pub row : List ℕ → Question → Row
 row s read = of-table (read-asked s) (Given s table-only) shape-form

@@ -14,7 +14,7 @@ use Rattle.bench.specs.declared.state.Outcome.the-variants.{Running}
 use Rattle.bench.specs.Rule.{tick-of, run-of}
 use Rattle.bench.specs.Ticked.{left-in, Going, Ticked, Spends, Kept}
 use Rattle.bench.specs.Loaded.{run-whole}
-use Rattle.bench.specs.Meaning.{Holds, Ended}
+use Rattle.bench.specs.BenchMeaning.{Holds, Ended}
 use Rattle.desk.specs.ListQuestions.{load-asked}
 
 -- any state, also one that no load gives

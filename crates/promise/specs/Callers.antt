@@ -9,10 +9,10 @@ use base.Fml.{Lft}
 use denote.Ref.{now}
 use lib.ListN.{take, drop}
 use Rattle.model.specs.Verdict.{horizon}
-use Rattle.model.specs.Meaning.{Undecided}
+use Rattle.model.specs.VerdictMeaning.{Undecided}
 use Rattle.model.specs.Request.{Legal}
 use Rattle.table.specs.TableOf.{table-of}
-use Rattle.table.specs.Refusals as Table
+use Rattle.table.specs.TableRefusals as Table
 use Rattle.requests.specs.Entry.{list-of}
 use Rattle.desk.specs.declared.answers.Verdict.{Verdict}
 use Rattle.desk.specs.declared.answers.Written.{Written}

@@ -31,6 +31,10 @@ Slice = RefT (List ℕ)
 abbrev Returns : {Args R : Type 0} → (Args → R → Args → Type 0) → Args → R → (Args → Type 0) → Type 0
 Returns {Args} learnt a r Leaves = (x : Args) × learnt a r x × Leaves x
 
+-- .. of a function that is lent nothing to write into
+abbrev Answers : {Args R : Type 0} → (Args → R → Args → Type 0) → Args → R → List ℕ → Type 0
+Answers learnt a r after = Returns learnt a r (λ x. after ≡ [])
+
 -- what is required, of these slices and the question's numbers, at any lifetimes
 abbrev pub Free : Lft → Lft → Slice → Slice → Question → Type 0
 Free κ ℓ s other Ask.read = limpidorsa_read.Asked (κ, tt) (s, tt)
@@ -49,16 +53,16 @@ Free κ ℓ s other (Ask.replay bytes) = limpidorsa_replay.Asked (κ, (ℓ, tt))
 -- the contract allows a call with these slices and the question's numbers to answer r, and to leave `after` in the
 -- buffer
 abbrev pub Allows : (κ ℓ : Lft) (s other : Slice) (q : Question) → row (now s) q .form .Flat → List ℕ → Type 0
-Allows κ ℓ s other Ask.read r after = Returns (limpidorsa_read.Learnt (κ, tt)) (s, tt) r (λ x. after ≡ [])
-Allows κ ℓ s other (Ask.demand k t) r after = Returns (limpidorsa_demand.Learnt (κ, tt)) (s, (k, (t, tt))) r (λ x. after ≡ [])
-Allows κ ℓ s other (Ask.work k w) r after = Returns (limpidorsa_work.Learnt (κ, tt)) (s, (k, (w, tt))) r (λ x. after ≡ [])
-Allows κ ℓ s other (Ask.margin t) r after = Returns (limpidorsa_margin.Learnt (κ, tt)) (s, (t, tt)) r (λ x. after ≡ [])
-Allows κ ℓ s other Ask.window r after = Returns (limpidorsa_window.Learnt (κ, tt)) (s, tt) r (λ x. after ≡ [])
-Allows κ ℓ s other Ask.verdict r after = Returns (limpidorsa_verdict.Learnt (κ, tt)) (s, tt) r (λ x. after ≡ [])
-Allows κ ℓ s other (Ask.response k i) r after = Returns (limpidorsa_response.Learnt (κ, tt)) (s, (k, (i, tt))) r (λ x. after ≡ [])
-Allows κ ℓ s other Ask.overload-size r after = Returns (limpidorsa_overload_size.Learnt (κ, tt)) (s, tt) r (λ x. after ≡ [])
+Allows κ ℓ s other Ask.read r after = Answers (limpidorsa_read.Learnt (κ, tt)) (s, tt) r after
+Allows κ ℓ s other (Ask.demand k t) r after = Answers (limpidorsa_demand.Learnt (κ, tt)) (s, (k, (t, tt))) r after
+Allows κ ℓ s other (Ask.work k w) r after = Answers (limpidorsa_work.Learnt (κ, tt)) (s, (k, (w, tt))) r after
+Allows κ ℓ s other (Ask.margin t) r after = Answers (limpidorsa_margin.Learnt (κ, tt)) (s, (t, tt)) r after
+Allows κ ℓ s other Ask.window r after = Answers (limpidorsa_window.Learnt (κ, tt)) (s, tt) r after
+Allows κ ℓ s other Ask.verdict r after = Answers (limpidorsa_verdict.Learnt (κ, tt)) (s, tt) r after
+Allows κ ℓ s other (Ask.response k i) r after = Answers (limpidorsa_response.Learnt (κ, tt)) (s, (k, (i, tt))) r after
+Allows κ ℓ s other Ask.overload-size r after = Answers (limpidorsa_overload_size.Learnt (κ, tt)) (s, tt) r after
 Allows κ ℓ s other (Ask.overload buffer place) r after =
     Returns (limpidorsa_overload.Learnt (κ, (ℓ, tt))) (s, (other, (place, tt))) r (λ x. after ≡ now (x .1 .0))
-Allows κ ℓ s other (Ask.list bytes) r after = Returns (limpidorsa_list.Learnt (κ, (ℓ, tt))) (s, (other, tt)) r (λ x. after ≡ [])
-Allows κ ℓ s other (Ask.load bytes) r after = Returns (limpidorsa_load.Learnt (κ, (ℓ, tt))) (s, (other, tt)) r (λ x. after ≡ [])
-Allows κ ℓ s other (Ask.replay bytes) r after = Returns (limpidorsa_replay.Learnt (κ, (ℓ, tt))) (s, (other, tt)) r (λ x. after ≡ [])
+Allows κ ℓ s other (Ask.list bytes) r after = Answers (limpidorsa_list.Learnt (κ, (ℓ, tt))) (s, (other, tt)) r after
+Allows κ ℓ s other (Ask.load bytes) r after = Answers (limpidorsa_load.Learnt (κ, (ℓ, tt))) (s, (other, tt)) r after
+Allows κ ℓ s other (Ask.replay bytes) r after = Answers (limpidorsa_replay.Learnt (κ, (ℓ, tt))) (s, (other, tt)) r after

@@ -1,5 +1,5 @@
--- The three demands, in the user's order, and the promise that they are kept. What each part says is in Given, Asked and
--- Every, in Numbers, Bench and Writing, in Promises, and in Settled, NothingLost, Named and Callers.
+-- The three demands, in the user's order, and the promise that they are kept. What each part says is in Given, Asked
+-- and EveryQuestion, in Numbers, Bench and Writing, in Promises, and in Settled, NothingLost, Named and Callers.
 -- Assumes nothing.
 use mathlib.Core.Path.{_≡_}
 use mathlib.Core.List.{List}
@@ -17,7 +17,7 @@ use Rattle.bench.specs.declared.state.Bench.{Bench}
 use Rattle.desk.specs.Questions.{read-asked, verdict-asked, overload-asked}
 use Rattle.promise.specs.Asked.{Question, row}
 use Rattle.promise.specs.Contracts.{Slice}
-use Rattle.promise.specs.Every.{Every-question, One-answer}
+use Rattle.promise.specs.EveryQuestion.{Every-question, One-answer}
 use Rattle.promise.specs.Writing.{Leaves-behind}
 use Rattle.promise.specs.Bench.{Ticks-rightly}
 use Rattle.promise.specs.Numbers.{Numbers}

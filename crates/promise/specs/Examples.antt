@@ -32,7 +32,7 @@ use Rattle.desk.specs.FlatVerdict.{flat-verdict}
 use Rattle.promise.specs.Tables.{sporadic, A, B, req, B-list, each-2, each-21846, each-32769, longest}
 use Rattle.promise.specs.Given.{Given, List-given}
 use Rattle.promise.specs.Promises.{Finishes-each, Overload-shown}
-use Rattle.promise.specs.Cases.{Cases-given}
+use Rattle.promise.specs.RefusalCases.{Cases-given}
 
 -- ---- what the examples are about
 
@@ -82,8 +82,8 @@ pub record B-written : Type 0 where
   pub is : shown .list ≡ B-list
 
 pub record Examples : Type 0 where
-  -- passed: A fits; a legal list of every length, with arrivals past every bound; the first three requests in bytes, the
-  -- last unit of which is given in tick 9; and the longest window of one task
+  -- passed: A fits; a legal list of every length, with arrivals past every bound; the first three requests in bytes,
+  -- the last unit of which is given in tick 9; and the longest window of one task
   pub A-legal : (n : ℕ) → Legal (table-of A) (A-round n)
   pub A-unbounded : (n : ℕ) → n ≤ A-round (suc n) .request n .arrival
   pub A-finishes : (n : ℕ) → Finishes-each (table-of A) (A-round n)
@@ -94,7 +94,7 @@ pub record Examples : Type 0 where
   pub one-fits : verdict-asked one ≡ answered (fits 1 (pos 0) 1)
   pub not-legal : Legal (table-of one) both → ⊥
   pub not-finished : Finishes-each (table-of one) both → ⊥
-  -- overloaded: B with its list; which request each of two schedules leaves; the machine's miss; and the last t there is
+  -- overloaded: B with its list; which request each of two schedules leaves; the machine's miss; and the last t
   pub B-is-written : B-written
   pub own-leaves : Leaves-job its-own 1
   pub other-leaves : Leaves-job other-first 0

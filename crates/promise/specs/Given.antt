@@ -9,9 +9,9 @@ use Rattle.laws.specs.Ladder.{Breaks}
 use Rattle.model.specs.Answer.{Answer, answered, refused}
 use Rattle.table.specs.TableOf.{table-of}
 use Rattle.table.specs.WellFormed.{WellFormed}
-use Rattle.table.specs.Refusals as Table
+use Rattle.table.specs.TableRefusals as Table
 use Rattle.requests.specs.Accepted.{Accepted}
-use Rattle.requests.specs.Refusals as Requests
+use Rattle.requests.specs.ListRefusals as Requests
 use Rattle.desk.specs.Orders.{Order}
 
 -- ---- of a table: "Tables are tested first", then the question's own order

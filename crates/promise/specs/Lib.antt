@@ -3,7 +3,7 @@ pub mod Given
 pub mod Forms
 pub mod Asked
 pub mod Contracts
-pub mod Every
+pub mod EveryQuestion
 pub mod Settled
 pub mod NothingLost
 pub mod Bench
@@ -12,6 +12,6 @@ pub mod Writing
 pub mod Promises
 pub mod Callers
 pub mod Named
-pub mod Cases
+pub mod RefusalCases
 pub mod Demands
 pub mod Examples

@@ -1,6 +1,6 @@
 -- The user's second demand, "The numbers are those the published models define": what each question is answered where
--- nothing is refused, by document 01's definitions. That the answers are settled in every part is Every; the named
--- numbers are Named.
+-- nothing is refused, by document 01's definitions. That the answers are settled in every part is EveryQuestion; the
+-- named numbers are Named.
 -- Assumes nothing.
 use mathlib.Core.Path.{_≡_}
 use mathlib.Core.List.{List}
@@ -9,7 +9,7 @@ use lib.IntN.{pos}
 use Rattle.laws.specs.Search.{Found}
 use Rattle.model.specs.Demand.{demand, work, margin}
 use Rattle.model.specs.Verdict.{horizon, closing-window, verdict}
-use Rattle.model.specs.Meaning.{Window-says}
+use Rattle.model.specs.VerdictMeaning.{Window-says}
 use Rattle.model.specs.Request.{Has-frame}
 use Rattle.model.specs.Jobs.{jobs-of}
 use Rattle.model.specs.Machine.{sooner}

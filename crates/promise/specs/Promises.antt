@@ -1,5 +1,5 @@
 -- The user's third demand: what *passed*, *overloaded* and *undecided* promise of the bytes that were judged so. The
--- first demand stands in Given and Every, the second in Numbers; Demands puts the three together.
+-- first demand stands in Given and EveryQuestion, the second in Numbers; Demands puts the three together.
 -- Assumes nothing.
 use mathlib.Core.Path.{_≡_}
 use mathlib.Core.List.{List}
@@ -7,7 +7,7 @@ use Prim.Native.Nat.{ℕ, _+_, _*_, _≤_, _<_}
 use lib.ListN.{length, take, drop}
 use Rattle.model.specs.Task.{Table}
 use Rattle.model.specs.Verdict.{horizon, Verdict, undecided}
-use Rattle.model.specs.Meaning.{Undecided, Means}
+use Rattle.model.specs.VerdictMeaning.{Undecided, Means}
 use Rattle.model.specs.Request.{Requests, Legal}
 use Rattle.model.specs.Jobs.{jobs-of}
 use Rattle.model.specs.Machine.{sooner, left-at}
@@ -69,7 +69,7 @@ No-schedule table list = (schedule : Schedule) → Unfinished (jobs-of table lis
 -- of bytes that are overloaded at t
 pub record Overload-shown (s : List ℕ) (t : ℕ) : Type 0 where
   pub list : List ℕ
-  pub size : size-asked s ≡ answered (length list)
+  pub size-is : size-asked s ≡ answered (length list)
   -- these bytes are what the writer writes wherever there is room, and what a caller reads back where it has written
   pub written : (buffer : List ℕ) (place : ℕ) → place + length list ≤ length buffer
       → overload-asked s buffer place ≡ answered list

@@ -5,7 +5,7 @@ use mathlib.Core.Path.{_≡_}
 use contract.Lifetimes.{Lfts}
 use Rattle.bench.specs.Rule.{tick-of}
 use Rattle.bench.specs.Loaded.{run-whole, end-of}
-use Rattle.bench.specs.Written.{replayed-of}
+use Rattle.bench.specs.ReplayWritten.{replayed-of}
 use Rattle.bench.proofs.state.Bench.tick.Reads as tick
 use Rattle.bench.proofs.state.Bench.run.Reads as run
 use Rattle.bench.proofs.replay.finish.Reads as finish

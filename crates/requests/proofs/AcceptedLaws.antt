@@ -10,13 +10,13 @@ use Rattle.model.specs.Task.{Table}
 use Rattle.model.specs.Request.{Legal, Sorted, last-arrival}
 use Rattle.table.specs.Bytes.{size, records}
 use Rattle.table.specs.TableOf.{table-of}
-use Rattle.requests.specs.declared.reader.Checked.the-variants as checked
+use Rattle.requests.specs.declared.list_reader.Checked.the-variants as checked
 use Rattle.requests.specs.Entry.{most-requests, entry-of, list-of}
-use Rattle.requests.specs.Rules.{Placed}
-use Rattle.requests.specs.Reader.{check-of}
+use Rattle.requests.specs.ListRules.{Placed}
+use Rattle.requests.specs.ListReader.{check-of}
 use Rattle.requests.specs.Accepted.{Good, Accepted, In-rule, Listed}
-use Rattle.requests.proofs.LengthLaws.{right-few}
-use Rattle.requests.proofs.Exact.{check-good, check-count}
+use Rattle.requests.proofs.ListLengthLaws.{right-few}
+use Rattle.requests.proofs.ListReaderExact.{check-good, check-count}
 
 -- ---- the rules of the whole list
 

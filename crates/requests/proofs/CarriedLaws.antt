@@ -10,9 +10,9 @@ use Rattle.laws.proofs.Cases.{lt-or-le}
 use Rattle.model.specs.Task.{Table}
 use Rattle.model.specs.Request.{Next}
 use Rattle.requests.specs.declared.entry.Entry.{Entry}
-use Rattle.requests.specs.declared.rules.SoFar.{SoFar}
+use Rattle.requests.specs.declared.list_rules.SoFar.{SoFar}
 use Rattle.requests.specs.Entry.{entry-of, list-of}
-use Rattle.requests.specs.Rules.{none-yet, next-frame, soonest}
+use Rattle.requests.specs.ListRules.{none-yet, next-frame, soonest}
 
 -- record m is the latest of task k before record i
 pub record Latest (s : List ℕ) (i k m : ℕ) : Type 0 where

@@ -11,9 +11,9 @@ use native.Mathlib.Numerals.{add-one}
 use native.Mathlib.Omega.{arith}
 use Rattle.laws.proofs.Cases.{lt-or-last}
 use Rattle.model.specs.Task.{Table}
-use Rattle.requests.specs.declared.rules.SoFar.{SoFar}
+use Rattle.requests.specs.declared.list_rules.SoFar.{SoFar}
 use Rattle.requests.specs.Entry.{entry-of}
-use Rattle.requests.specs.Rules.{after-of}
+use Rattle.requests.specs.ListRules.{after-of}
 use Rattle.requests.proofs.CarriedLaws.{Latest, Of-task, unseen, seen, Carried}
 
 -- record i, the newest, is the latest of its own task

@@ -12,17 +12,17 @@ use Rattle.laws.proofs.LadderLaws.{climb-kept, climb-broken, keeps-or-named}
 use Rattle.laws.proofs.ReaderExact.{Rules}
 use Rattle.model.specs.Task.{Table}
 use Rattle.table.specs.Bytes.{records}
-use Rattle.requests.specs.declared.rules.SoFar.{SoFar}
-use Rattle.requests.specs.declared.reader.Checked.the-variants.{Legal, Refused}
+use Rattle.requests.specs.declared.list_rules.SoFar.{SoFar}
+use Rattle.requests.specs.declared.list_reader.Checked.the-variants.{Legal, Refused}
 use Rattle.requests.specs.Entry.{entry-of}
 use Rattle.requests.specs.Accepted.{Length-right, rules, Good}
-use Rattle.requests.specs.Reader.{reader-of, check-of}
-use Rattle.requests.specs.Refusals.{Breaks}
-use Rattle.requests.proofs.LengthLaws.{catches-length}
+use Rattle.requests.specs.ListReader.{reader-of, check-of}
+use Rattle.requests.specs.ListRefusals.{Breaks}
+use Rattle.requests.proofs.ListLengthLaws.{catches-length}
 use Rattle.requests.proofs.CarriedLaws.{Carried, carried-start}
 use Rattle.requests.proofs.CarriedNext.{carried-next}
 use Rattle.requests.proofs.GoodRequests.{good-keeps, keeps-good, breaks-some}
-use Rattle.requests.proofs.RuleLaws.{rules-caught}
+use Rattle.requests.proofs.ListRuleLaws.{rules-caught}
 
 -- ---- the answer
 

@@ -9,7 +9,7 @@ use Rattle.laws.specs.Ladder.{Keeps}
 use Rattle.laws.proofs.LadderLaws.{breaks-number}
 use Rattle.model.specs.Task.{Table}
 use Rattle.requests.specs.Accepted.{rules, Good}
-use Rattle.requests.specs.Refusals.{Breaks}
+use Rattle.requests.specs.ListRefusals.{Breaks}
 
 pub good-keeps : {table : Table} {s : List ℕ} {j : ℕ} → Good table s j → Keeps (rules table) (s, j)
 good-keeps good = (good .in-place, (good .in-turn, tt))

@@ -1,12 +1,12 @@
-pub mod LengthLaws
+pub mod ListLengthLaws
 pub mod TestLaws
 pub mod PlacedLaws
 pub mod CarriedLaws
 pub mod CarriedNext
 pub mod GoodRequests
-pub mod RuleLaws
+pub mod ListRuleLaws
 pub mod CheckLaws
-pub mod Exact
+pub mod ListReaderExact
 pub mod AcceptedLaws
 pub mod BytesLaws
 pub mod LawfulLaws

@@ -16,9 +16,9 @@ use Rattle.table.specs.Ready.{Ready, Frames}
 use Rattle.table.specs.TableOf.{table-of}
 use Rattle.table.proofs.ReadyLaws.{ready-tasks, ready-few}
 use Rattle.requests.specs.declared.entry.Entry.{Entry}
-use Rattle.requests.specs.declared.rules.SoFar.{SoFar}
-use Rattle.requests.specs.Rules.{out-of-order, misplaced, out-of-turn, Placed}
-use Rattle.requests.specs.Reader.{fault-of}
+use Rattle.requests.specs.declared.list_rules.SoFar.{SoFar}
+use Rattle.requests.specs.ListRules.{out-of-order, misplaced, out-of-turn, Placed}
+use Rattle.requests.specs.ListReader.{fault-of}
 use Rattle.requests.proofs.TestLaws.{catches-place}
 
 pub last-arrival-is : last-arrival ≡ 65535

@@ -8,8 +8,8 @@ use Rattle.model.specs.Task.{Table}
 use Rattle.model.specs.Request.{Has-frame, last-arrival}
 use Rattle.model.proofs.FrameLaws.{catches-frame}
 use Rattle.requests.specs.declared.entry.Entry.{Entry}
-use Rattle.requests.specs.declared.rules.SoFar.{SoFar}
-use Rattle.requests.specs.Rules.{misplaced, out-of-turn}
+use Rattle.requests.specs.declared.list_rules.SoFar.{SoFar}
+use Rattle.requests.specs.ListRules.{misplaced, out-of-turn}
 
 -- ---- rule 10
 

@@ -9,9 +9,9 @@ use Rattle.model.specs.Task.{Table}
 use Rattle.model.specs.Request.{Has-frame, Next, Follows, Legal, Before, Sorted, last-arrival}
 use Rattle.table.specs.Bytes.{size, records}
 use Rattle.requests.specs.declared.entry.Entry.{Entry}
-use Rattle.requests.specs.declared.rules.SoFar.{SoFar}
+use Rattle.requests.specs.declared.list_rules.SoFar.{SoFar}
 use Rattle.requests.specs.Entry.{most-requests, entry-of, list-of}
-use Rattle.requests.specs.Rules.{misplaced, out-of-turn}
+use Rattle.requests.specs.ListRules.{misplaced, out-of-turn}
 
 -- rule 10, the length: "A list has 0 to 128 records"
 pub record Length-right (n : ℕ) : Type 0 where

@@ -1,5 +1,5 @@
 pub mod Entry
-pub mod Rules
+pub mod ListRules
 pub mod Accepted
-pub mod Reader
-pub mod Refusals
+pub mod ListReader
+pub mod ListRefusals

@@ -7,7 +7,7 @@ use Rattle.model.specs.Task.{Table}
 use Rattle.model.specs.Response.{higher-share, response-by, response}
 use Rattle.model.proofs.HigherLaws.{response-is}
 use Rattle.response.specs.declared.rounds.Response.the-variants.{OnTime, Late}
-use Rattle.response.specs.Written.{response-of, Response-is}
+use Rattle.response.specs.ResponseWritten.{response-of, Response-is}
 use Rattle.response.proofs.RoundLaws.{Rounds, rounds-late, rounds-on-time}
 
 module _ (table : Table) (k i : ℕ) {run end v n : ℕ} (run-is : run ≡ table .task k .E i)

@@ -9,7 +9,7 @@ use lib.Dec.{ltb}
 use native.Mathlib.Omega.{arith}
 use borrow.Author.Tests.{lt-ltb, le-ltb, ltb-true, ltb-false}
 use Rattle.laws.specs.Search.{Found, at, nowhere, least-from, place-or}
-use Rattle.laws.proofs.PlaceLaws.{least-at, least-none}
+use Rattle.laws.proofs.FoundLaws.{least-at, least-none}
 use Rattle.laws.proofs.SearchLaws.{Right, least-right, least-is, Seeking, seeking-hit, seeking-on, seeking-end}
 use Rattle.table.specs.Bytes.{record-of}
 use Rattle.table.specs.declared.record.Record.{Record}

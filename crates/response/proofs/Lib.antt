@@ -1,5 +1,5 @@
 pub mod DeadlineLaws
-pub mod ShareLaws
+pub mod ShareWalkLaws
 pub mod RoundLaws
 pub mod AnswerLaws
 pub mod FramesWithin

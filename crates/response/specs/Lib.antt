@@ -1,3 +1,3 @@
 pub mod Deadlines
 pub mod Shares
-pub mod Written
+pub mod ResponseWritten

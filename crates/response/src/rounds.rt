@@ -3,7 +3,7 @@ use table::plan::Plan;
 ghost use Rattle.model.specs.Request.{Has-frame};
 ghost use Rattle.table.specs.Ready.{Ready};
 ghost use Rattle.table.specs.TableOf.{table-of};
-ghost use Rattle.response.specs.Written.{Response-is};
+ghost use Rattle.response.specs.ResponseWritten.{Response-is};
 
 pub enum Response {
     OnTime { value: u64, rounds: u64 },

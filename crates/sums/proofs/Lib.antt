@@ -1,4 +1,4 @@
-pub mod CountLaws
+pub mod CyclicWalkLaws
 pub mod MostLaws
 pub mod PeakReady
 pub mod TotalLaws

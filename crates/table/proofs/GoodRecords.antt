@@ -8,7 +8,7 @@ use lib.Dec.{ltb}
 use Rattle.laws.specs.Ladder.{Keeps}
 use Rattle.laws.proofs.LadderLaws.{breaks-number}
 use Rattle.table.specs.WellFormed.{rules, Good}
-use Rattle.table.specs.Refusals.{Breaks}
+use Rattle.table.specs.TableRefusals.{Breaks}
 
 pub good-keeps : {s : List ℕ} {j : ℕ} → Good s j → Keeps rules (s, j)
 good-keeps good = (good .in-run, (good .kind-right, (good .has-room, (good .not-zero, (good .even, tt)))))

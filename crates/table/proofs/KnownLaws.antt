@@ -8,7 +8,7 @@ use native.Mathlib.Omega.{arith}
 use Rattle.laws.proofs.Cases.{lt-or-le}
 use Rattle.table.specs.declared.rules.SoFar.{SoFar}
 use Rattle.table.specs.Bytes.{record-of}
-use Rattle.table.specs.Rules.{none-yet}
+use Rattle.table.specs.TableRules.{none-yet}
 use Rattle.table.specs.WellFormed.{Same-task, In-run, Kind-right, Even}
 
 -- record j is a frame of the last task

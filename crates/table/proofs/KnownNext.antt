@@ -11,7 +11,7 @@ use Rattle.laws.proofs.Cases.{lt-or-le}
 use Rattle.table.specs.declared.record.Record.{Record}
 use Rattle.table.specs.declared.rules.SoFar.{SoFar}
 use Rattle.table.specs.Bytes.{record-of}
-use Rattle.table.specs.Rules.{begins, after-of}
+use Rattle.table.specs.TableRules.{begins, after-of}
 use Rattle.table.specs.WellFormed.{Good}
 use Rattle.table.proofs.KnownLaws.{Last-task, Known, below, next-task, on-kind, on-p}
 

@@ -1,13 +1,13 @@
-pub mod LengthLaws
+pub mod TableLengthLaws
 pub mod Turns
 pub mod Counting
 pub mod KnownLaws
 pub mod KnownNext
 pub mod GoodRecords
-pub mod RuleLaws
+pub mod TableRuleLaws
 pub mod ReadLaws
 pub mod Rising
-pub mod Exact
+pub mod TableReaderExact
 pub mod Runs
 pub mod Stands
 pub mod TaskLaws

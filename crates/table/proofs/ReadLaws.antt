@@ -13,14 +13,14 @@ use Rattle.table.specs.declared.rules.SoFar.{SoFar}
 use Rattle.table.specs.declared.reader.Shape.{Shape}
 use Rattle.table.specs.declared.reader.Reading.the-variants.{Table, Refused}
 use Rattle.table.specs.Bytes.{records, record-of}
-use Rattle.table.specs.Reader.{reader-of, reading-of}
+use Rattle.table.specs.TableReader.{reader-of, reading-of}
 use Rattle.table.specs.WellFormed.{Length-right, rules, Good}
-use Rattle.table.specs.Refusals.{Breaks}
-use Rattle.table.proofs.LengthLaws.{catches-length}
+use Rattle.table.specs.TableRefusals.{Breaks}
+use Rattle.table.proofs.TableLengthLaws.{catches-length}
 use Rattle.table.proofs.KnownLaws.{Known, known-start}
 use Rattle.table.proofs.KnownNext.{known-next}
 use Rattle.table.proofs.GoodRecords.{good-keeps, keeps-good, breaks-some}
-use Rattle.table.proofs.RuleLaws.{rules-caught}
+use Rattle.table.proofs.TableRuleLaws.{rules-caught}
 
 -- ---- the answer
 

@@ -12,14 +12,14 @@ use Rattle.model.specs.Request.{Has-frame, no-frame}
 use Rattle.model.specs.Task.{ProperTable}
 use Rattle.table.specs.Bytes.{Bytes, size, most-records, record-of}
 use Rattle.table.specs.TableOf.{task-of, table-of, plan-of}
-use Rattle.table.specs.Reader.{reading-of}
+use Rattle.table.specs.TableReader.{reading-of}
 use Rattle.table.specs.Ready.{Ready, Stands-at, Frame-is, Frames}
 use Rattle.table.specs.declared.frame.Place.{Place}
 use Rattle.table.specs.declared.plan.Plan.{Plan}
 use Rattle.table.specs.declared.record.Record.{Record}
 use Rattle.table.specs.declared.reader.Shape.{Shape}
 use Rattle.table.specs.declared.reader.Reading.the-variants.{Table}
-use Rattle.table.proofs.Exact.{shaped}
+use Rattle.table.proofs.TableReaderExact.{shaped}
 use Rattle.table.proofs.Rising.{few-tasks}
 use Rattle.table.proofs.Stands.{Planned, Plans, plans}
 use Rattle.table.proofs.TaskLaws.{task-count, task-E, task-D, task-P, well-proper}

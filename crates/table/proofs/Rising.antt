@@ -13,7 +13,7 @@ use Rattle.laws.proofs.TallyLaws.{Up-to, tally-most, tally-place}
 use Rattle.table.specs.Bytes.{records, record-of}
 use Rattle.table.specs.WellFormed.{WellFormed}
 use Rattle.table.specs.TableOf.{records-before, table-of}
-use Rattle.table.proofs.LengthLaws.{right-some}
+use Rattle.table.proofs.TableLengthLaws.{right-some}
 
 -- record i is of a task below k
 abbrev is-below : List ℕ → ℕ → ℕ → Bool

@@ -10,9 +10,9 @@ use Rattle.laws.proofs.ReaderLaws.{Reads-on, reads-start, reads-turn}
 use Rattle.table.specs.declared.record.Record.{Record}
 use Rattle.table.specs.declared.rules.SoFar.{SoFar}
 use Rattle.table.specs.Bytes.{most-records, records, record-of}
-use Rattle.table.specs.Rules.{none-yet, begins, after-of}
-use Rattle.table.specs.Reader.{bad-length, fault-of, reader-of}
-use Rattle.table.proofs.LengthLaws.{catches-length, right-few}
+use Rattle.table.specs.TableRules.{none-yet, begins, after-of}
+use Rattle.table.specs.TableReader.{bad-length, fault-of, reader-of}
+use Rattle.table.proofs.TableLengthLaws.{catches-length, right-few}
 
 -- before record i, with b known of the records passed
 pub record Reads-few (s : List ℕ) (i : ℕ) (b : SoFar) : Type 0 where

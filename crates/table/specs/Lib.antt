@@ -1,7 +1,7 @@
 pub mod Bytes
-pub mod Rules
+pub mod TableRules
 pub mod WellFormed
-pub mod Reader
-pub mod Refusals
+pub mod TableReader
+pub mod TableRefusals
 pub mod TableOf
 pub mod Ready

@@ -9,7 +9,7 @@ use Rattle.laws.specs.Ladder.{Rule, rule}
 use Rattle.table.specs.declared.record.Record.{Record}
 use Rattle.table.specs.declared.rules.SoFar.{SoFar}
 use Rattle.table.specs.Bytes.{size, most-records, records, record-of}
-use Rattle.table.specs.Rules.{off-run, bad-kind, too-many, has-zero, uneven}
+use Rattle.table.specs.TableRules.{off-run, bad-kind, too-many, has-zero, uneven}
 
 -- records i and j, i the earlier, are frames of one task
 pub record Same-task (s : List ℕ) (i j : ℕ) : Type 0 where

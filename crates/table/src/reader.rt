@@ -2,7 +2,7 @@
 use crate::record::SIZE;
 use crate::rules::SoFar;
 ghost use mathlib.Core.Path.{_≡_};
-ghost use Rattle.table.specs.Reader.{bad-length, reading-of, refusal-in};
+ghost use Rattle.table.specs.TableReader.{bad-length, reading-of, refusal-in};
 
 // The most records of a table.
 pub const MOST_RECORDS: usize = 64;

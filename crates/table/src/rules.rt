@@ -3,8 +3,8 @@ use crate::record::Record;
 ghost use mathlib.Core.Path.{_≡_};
 ghost use mathlib.Core.Bool.{cond};
 ghost use Prim.Native.Nat.{_<_};
-ghost use Rattle.table.specs.Reader.{fault-of};
-ghost use Rattle.table.specs.Rules.{after-of};
+ghost use Rattle.table.specs.TableReader.{fault-of};
+ghost use Rattle.table.specs.TableRules.{after-of};
 
 // What the records so far say: how many tasks, and of the last one its frames so far, its kind and its first P.
 pub struct SoFar {

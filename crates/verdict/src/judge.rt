@@ -9,7 +9,7 @@ ghost use Rattle.model.specs.Verdict.{fits, overloaded-at, verdict};
 ghost use Rattle.table.specs.Ready.{Ready};
 ghost use Rattle.table.specs.TableOf.{table-of};
 ghost use Rattle.sums.specs.Sized.{Total, ceiling};
-ghost use Rattle.verdict.specs.Written.{judged-of};
+ghost use Rattle.verdict.specs.VerdictWritten.{judged-of};
 
 pub enum Verdict {
     Overloaded { t: u64, margin: i64 },

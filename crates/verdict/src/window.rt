@@ -6,7 +6,7 @@ ghost use Rattle.model.specs.Verdict.{closing-window};
 ghost use Rattle.table.specs.Ready.{Ready};
 ghost use Rattle.table.specs.TableOf.{table-of};
 ghost use Rattle.sums.specs.Sized.{ceiling};
-ghost use Rattle.verdict.specs.Written.{closing-of};
+ghost use Rattle.verdict.specs.VerdictWritten.{closing-of};
 
 pub enum Closing {
     At(u64),

@@ -4,7 +4,7 @@ use mathlib.Core.Path.{sym, ap}
 use borrow.Author.Needs.{needs}
 use Rattle.bench.specs.declared.state.Outcome.{Outcome}
 use Rattle.bench.specs.Loaded.{answer-of}
-use Rattle.bench.specs.Written.{replayed-of}
+use Rattle.bench.specs.ReplayWritten.{replayed-of}
 use Rattle.bench.proofs.replay.answer_at.Statement.{statement}
 use Rattle.bench.proofs.replay.answer_at.Tie as tie
 

@@ -4,7 +4,7 @@ use mathlib.Core.Path.{ap, _∙_}
 use borrow.Author.Needs.{needs}
 use Rattle.bench.specs.declared.state.Bench.{Bench}
 use Rattle.bench.specs.Loaded.{answer-of, end-of}
-use Rattle.bench.specs.Written.{replayed-of}
+use Rattle.bench.specs.ReplayWritten.{replayed-of}
 use Rattle.bench.proofs.replay.finish.Statement.{statement}
 use Rattle.bench.proofs.replay.finish.Tie as tie
 

@@ -33,7 +33,8 @@ returns-2 c =
     let entry = is-task .before .before in
     let by = most-by (entry .args .due) in
     ap refuses (c .refuse2 .ensures)
-    ∙ ap flat-amount (task-too-far _ _ (entry .pre) by (entry .args .task) (entry .args .t) (search needs) (search needs))
+    ∙ ap flat-amount
+    (task-too-far _ _ (entry .pre) by (entry .args .task) (entry .args .t) (search needs) (search needs))
 
 make-plan-requires : tie.Need-make-plan-requires
 make-plan-requires c κs = plan-room _ _ (c .before .before .before .pre)

@@ -4,7 +4,7 @@ use mathlib.Core.Path.{sym, ap, _∙_}
 use borrow.Author.Needs.{needs}
 use Rattle.table.proofs.ReadyLaws.{ready-read}
 use Rattle.bench.specs.Loaded.{end-of}
-use Rattle.bench.specs.Written.{replayed-of}
+use Rattle.bench.specs.ReplayWritten.{replayed-of}
 use Rattle.desk.specs.ListQuestions.{replays, replay-asked}
 use Rattle.desk.specs.FlatList.{flat-ending}
 use Rattle.desk.specs.Laid.{laid-ending}

@@ -10,7 +10,7 @@ use Rattle.desk.specs.FlatVerdict.{flat-response}
 use Rattle.desk.specs.Laid.{laid-response}
 use Rattle.desk.proofs.AskLaws.{plan-room}
 use Rattle.desk.proofs.LaidLaws.{response-laid}
-use Rattle.desk.proofs.ResponseLaws.{no-such-frame, has-frame, some-above, response-answered}
+use Rattle.desk.proofs.ResponseWays.{no-such-frame, has-frame, some-above, response-answered}
 use Rattle.desk.proofs.responses.respond_in.Statement.{statement}
 use Rattle.desk.proofs.responses.respond_in.Tie as tie
 

@@ -3,7 +3,7 @@
 -- Assumes nothing.
 use borrow.Author.Needs.{needs}
 use Rattle.model.specs.Replay.{last-tick}
-use Rattle.desk.proofs.TickLaws.{tick-stopped, tick-past, tick-running}
+use Rattle.desk.proofs.FlatTickLaws.{tick-stopped, tick-past, tick-running}
 use Rattle.desk.proofs.ticks.limpidorsa_tick.Statement.{statement}
 use Rattle.desk.proofs.ticks.limpidorsa_tick.Tie as tie
 

@@ -30,7 +30,9 @@ returns c =
     let judged = c .before .before in
     let entry = judged .before .before .before in
     ap refuses (c .refuse .ensures)
-    ∙ ap flat-written (calm-refused _ _ (entry .pre) (judged .judge-to .ensures) [] (λ table. length (list-in table)) (c .before .match .keys2))
+    ∙ ap flat-written
+    (calm-refused _ _ (entry .pre) (judged .judge-to .ensures) [] (λ table. length (list-in table))
+    (c .before .match .keys2))
 
 list-size-requires : tie.Need-list-size-requires
 unfolding horizon

@@ -5,7 +5,7 @@ use Prim.Native.Nat.{_-_}
 use borrow.Author.Needs.{needs}
 use Rattle.laws.proofs.Adding.{Adding, adding-none, adding-on}
 use Rattle.requests.specs.Entry.{widest}
-use Rattle.overload.proofs.TotalLaws.{place, total-added}
+use Rattle.overload.proofs.ArrayTotalLaws.{place, total-added}
 use Rattle.overload.proofs.write.total_of.Statement.{statement}
 use Rattle.overload.proofs.write.total_of.Tie as tie
 

@@ -8,7 +8,7 @@ use Rattle.laws.proofs.Adding.{Adding, adding-none, adding-room, adding-on}
 use Rattle.table.specs.TableOf.{table-of}
 use Rattle.table.proofs.ReadyLaws.{ready-low}
 use Rattle.sums.specs.Sized.{longest}
-use Rattle.response.proofs.ShareLaws.{shares, shares-added}
+use Rattle.response.proofs.ShareWalkLaws.{shares, shares-added}
 use Rattle.response.proofs.share.add_shares.Statement.{statement}
 use Rattle.response.proofs.share.add_shares.Tie as tie
 

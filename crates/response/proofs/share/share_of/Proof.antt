@@ -3,7 +3,7 @@
 use native.Mathlib.Omega.{arith}
 use borrow.Author.Needs.{needs}
 use Rattle.table.proofs.ReadyLaws.{ready-here, ready-proper}
-use Rattle.response.proofs.ShareLaws.{share-counted}
+use Rattle.response.proofs.ShareWalkLaws.{share-counted}
 use Rattle.response.proofs.share.share_of.Statement.{statement}
 use Rattle.response.proofs.share.share_of.Tie as tie
 

@@ -4,7 +4,7 @@
 use borrow.Author.Needs.{needs}
 use native.Mathlib.Omega.{arith}
 use Rattle.table.specs.TableOf.{task-of}
-use Rattle.sums.proofs.CountLaws.{Counting, counting-start, counting-end, counting-less, counting-on}
+use Rattle.sums.proofs.CyclicWalkLaws.{Counting, counting-start, counting-end, counting-less, counting-on}
 use Rattle.sums.proofs.cyclic.count_from.Statement.{statement}
 use Rattle.sums.proofs.cyclic.count_from.Tie as tie
 

@@ -2,7 +2,7 @@
 -- Assumes nothing.
 use mathlib.Core.Path.{sym, ap}
 use borrow.Author.Needs.{needs}
-use Rattle.table.specs.Reader.{refusal-in}
+use Rattle.table.specs.TableReader.{refusal-in}
 use Rattle.table.proofs.reader.refusal_of.Statement.{statement}
 use Rattle.table.proofs.reader.refusal_of.Tie as tie
 

@@ -5,7 +5,7 @@ use lib.IntN.{ℤ}
 use borrow.Author.Needs.{needs}
 use Rattle.laws.proofs.SignedLaws.{signed-kept, sub-zero-is}
 use Rattle.model.specs.Verdict.{fits}
-use Rattle.verdict.specs.Written.{judged-of}
+use Rattle.verdict.specs.VerdictWritten.{judged-of}
 use Rattle.verdict.proofs.judge.fit_in.Statement.{statement}
 use Rattle.verdict.proofs.judge.fit_in.Tie as tie
 

@@ -10,7 +10,7 @@ use Rattle.model.proofs.Walking.{Walking, Tried, walking-start, walking-end, wa
 use Rattle.table.specs.TableOf.{table-of}
 use Rattle.table.proofs.ReadyLaws.{ready-proper}
 use Rattle.sums.proofs.TotalLaws.{demands-are, work-is}
-use Rattle.verdict.specs.Written.{judged-of}
+use Rattle.verdict.specs.VerdictWritten.{judged-of}
 use Rattle.verdict.proofs.judge.judge_to.Statement.{statement}
 use Rattle.verdict.proofs.judge.judge_to.Tie as tie
 

@@ -8,7 +8,7 @@ use borrow.Author.Needs.{needs}
 use Rattle.laws.proofs.SignedLaws.{signed-kept}
 use Rattle.model.specs.Verdict.{overloaded, overloaded-at}
 use Rattle.sums.proofs.TotalLaws.{demands-are}
-use Rattle.verdict.specs.Written.{judged-of}
+use Rattle.verdict.specs.VerdictWritten.{judged-of}
 use Rattle.verdict.proofs.judge.overload_at.Statement.{statement}
 use Rattle.verdict.proofs.judge.overload_at.Tie as tie
 

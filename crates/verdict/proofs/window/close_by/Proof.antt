@@ -10,7 +10,7 @@ use Rattle.model.specs.Verdict.{closes, closing-window}
 use Rattle.model.proofs.ClosingLaws.{closes-yes, closes-no}
 use Rattle.table.specs.TableOf.{table-of}
 use Rattle.sums.proofs.TotalLaws.{work-is}
-use Rattle.verdict.specs.Written.{closing-of}
+use Rattle.verdict.specs.VerdictWritten.{closing-of}
 use Rattle.verdict.proofs.window.close_by.Statement.{statement}
 use Rattle.verdict.proofs.window.close_by.Tie as tie
 

@@ -6,9 +6,9 @@ ghost use Prim.Native.Nat.{_<_};
 ghost use Rattle.model.specs.Request.{Has-frame};
 ghost use Rattle.table.specs.Ready.{Ready};
 ghost use Rattle.table.specs.TableOf.{table-of};
-ghost use Rattle.requests.specs.Reader.{fault-of};
-ghost use Rattle.requests.specs.Rules.{out-of-order, misplaced, out-of-turn};
-ghost use Rattle.requests.specs.Rules.{next-frame, soonest, after-of, Placed};
+ghost use Rattle.requests.specs.ListReader.{fault-of};
+ghost use Rattle.requests.specs.ListRules.{out-of-order, misplaced, out-of-turn};
+ghost use Rattle.requests.specs.ListRules.{next-frame, soonest, after-of, Placed};
 
 // "arrivals 0 to 65,535"
 pub const LAST_ARRIVAL: u32 = 65535;

@@ -1,9 +1,9 @@
--- `requests::rules::soonest_after` meets its contract: an arrival within the limit plus a P of 16 bits fits 32.
+-- `requests::list_rules::soonest_after` meets its contract: an arrival within the limit plus a P of 16 bits fits 32.
 -- Assumes nothing.
 use borrow.Author.Needs.{needs}
 use Rattle.requests.proofs.PlacedLaws.{soonest-fits}
-use Rattle.requests.proofs.rules.soonest_after.Statement.{statement}
-use Rattle.requests.proofs.rules.soonest_after.Tie as tie
+use Rattle.requests.proofs.list_rules.soonest_after.Statement.{statement}
+use Rattle.requests.proofs.list_rules.soonest_after.Tie as tie
 
 add-result : tie.Need-add-result
 add-result c =

@@ -11,7 +11,7 @@ use Rattle.model.specs.Demand.{frame}
 use Rattle.model.specs.Request.{Has-frame, no-frame, last-arrival}
 use Rattle.table.specs.TableOf.{table-of}
 use Rattle.requests.specs.declared.entry.Entry.{Entry}
-use Rattle.requests.specs.declared.rules.SoFar.{SoFar}
+use Rattle.requests.specs.declared.list_rules.SoFar.{SoFar}
 
 -- before the first record any may come
 abbrev pub none-yet : SoFar

@@ -14,11 +14,11 @@ use Rattle.table.specs.declared.reader.Refusal.{Refusal}
 use Rattle.table.specs.declared.reader.Reading.{Reading}
 use Rattle.table.specs.declared.reader.Reading.the-variants.{Table, Refused}
 use Rattle.table.specs.Bytes.{size, most-records, records}
-use Rattle.table.specs.Reader.{reader-of, reading-in, reading-of}
+use Rattle.table.specs.TableReader.{reader-of, reading-in, reading-of}
 use Rattle.table.specs.WellFormed.{WellFormed}
-use Rattle.table.specs.Refusals.{Refused-with}
+use Rattle.table.specs.TableRefusals.{Refused-with}
 use Rattle.table.specs.TableOf.{table-of}
-use Rattle.table.proofs.LengthLaws.{right-some, right-few}
+use Rattle.table.proofs.TableLengthLaws.{right-some, right-few}
 use Rattle.table.proofs.KnownLaws.{before-it}
 use Rattle.table.proofs.Rising.{few-tasks}
 use Rattle.table.proofs.ReadLaws.{reading-stopped, reading-whole, rules-of}

@@ -12,9 +12,9 @@ use Rattle.model.proofs.FrameLaws.{catches-frame}
 use Rattle.table.specs.declared.reader.Shape.{Shape}
 use Rattle.table.specs.declared.reader.Reading.the-variants as reading
 use Rattle.table.specs.Bytes.{records}
-use Rattle.table.specs.Reader.{reading-of}
+use Rattle.table.specs.TableReader.{reading-of}
 use Rattle.table.specs.TableOf.{table-of}
-use Rattle.table.proofs.Exact.{shaped}
+use Rattle.table.proofs.TableReaderExact.{shaped}
 use Rattle.response.specs.Deadlines.{first-above}
 use Rattle.response.proofs.DeadlineLaws.{above-at, above-none}
 use Rattle.desk.specs.Questions.{response-asked}

@@ -12,9 +12,9 @@ use Rattle.laws.proofs.Tests.{Catches, catches-as}
 use Rattle.model.specs.Task.{Table}
 use Rattle.model.specs.Request.{Before}
 use Rattle.requests.specs.declared.entry.Entry.{Entry}
-use Rattle.requests.specs.declared.rules.SoFar.{SoFar}
+use Rattle.requests.specs.declared.list_rules.SoFar.{SoFar}
 use Rattle.requests.specs.Entry.{entry-of, request-in, list-of}
-use Rattle.requests.specs.Rules.{misplaced, out-of-turn}
+use Rattle.requests.specs.ListRules.{misplaced, out-of-turn}
 use Rattle.requests.specs.Accepted.{In-place, In-turn, rules}
 use Rattle.requests.proofs.TestLaws.{In-order, catches-place, catches-turn}
 use Rattle.requests.proofs.CarriedLaws.{Of-task, unseen, seen, Last, Carried, latest-next, latest-is}

@@ -12,11 +12,11 @@ use Rattle.model.specs.Task.{Table}
 use Rattle.table.specs.Bytes.{size, records}
 use Rattle.table.specs.declared.reader.Refusal.{Refusal}
 use Rattle.requests.specs.declared.entry.Entry.{Entry}
-use Rattle.requests.specs.declared.rules.SoFar.{SoFar}
-use Rattle.requests.specs.declared.reader.Checked.{Checked}
-use Rattle.requests.specs.declared.reader.Checked.the-variants.{Legal, Refused}
+use Rattle.requests.specs.declared.list_rules.SoFar.{SoFar}
+use Rattle.requests.specs.declared.list_reader.Checked.{Checked}
+use Rattle.requests.specs.declared.list_reader.Checked.the-variants.{Legal, Refused}
 use Rattle.requests.specs.Entry.{most-requests, entry-of}
-use Rattle.requests.specs.Rules.{none-yet, after-of}
+use Rattle.requests.specs.ListRules.{none-yet, after-of}
 use Rattle.requests.specs.Accepted.{rules}
 
 -- 10: "list length not a multiple of 8 or above 1,024 (index 0)"

@@ -1,4 +1,4 @@
--- `requests::reader::check_list` meets its contract. The loop's invariant, `Reads-on`: before record i, reading on
+-- `requests::list_reader::check_list` meets its contract. The loop's invariant, `Reads-on`: before record i, reading on
 -- from there with what is carried from the records passed gives the whole answer. The measure is the records left.
 -- Assumes nothing.
 use Prim.Native.Nat.{_-_}
@@ -6,11 +6,11 @@ use mathlib.Core.Path.{sym, _∙_}
 use borrow.Author.Needs.{needs}
 use Rattle.laws.proofs.ReaderLaws.{read-short, Reads-on, reads-start, reads-turn, reads-stopped, reads-whole}
 use Rattle.table.specs.TableOf.{table-of}
-use Rattle.requests.specs.Reader.{reader-of}
+use Rattle.requests.specs.ListReader.{reader-of}
 use Rattle.requests.proofs.PlacedLaws.{fine-placed}
 use Rattle.requests.proofs.CheckLaws.{check-stopped, check-whole}
-use Rattle.requests.proofs.reader.check_list.Statement.{statement}
-use Rattle.requests.proofs.reader.check_list.Tie as tie
+use Rattle.requests.proofs.list_reader.check_list.Statement.{statement}
+use Rattle.requests.proofs.list_reader.check_list.Tie as tie
 
 abbrev Inv-loop : tie.InvT-loop
 Inv-loop s plan list len n b₀ i₀ b i = Reads-on (reader-of (table-of s) list) i b

@@ -35,7 +35,8 @@ pub record One-answer (κ ℓ : Lft) (s other : Slice) (q : Question) : Type 0 w
   pub some : Some-answer κ ℓ s other q
   pub means : (r : row (now s) q .form .Flat) (after : List ℕ) → Allows κ ℓ s other q r after
       → r ≡ row (now s) q .form .lay (row (now s) q .said)
-  pub leaves : (r : row (now s) q .form .Flat) (after : List ℕ) → Allows κ ℓ s other q r after → after ≡ row (now s) q .after
+  pub leaves : (r : row (now s) q .form .Flat) (after : List ℕ) → Allows κ ℓ s other q r after
+      → after ≡ row (now s) q .after
   pub one-answer : (r p : row (now s) q .form .Flat) (after last : List ℕ) → Allows κ ℓ s other q r after
       → Allows κ ℓ s other q p last → r ≡ p
   pub one-buffer : (r p : row (now s) q .form .Flat) (after last : List ℕ) → Allows κ ℓ s other q r after

@@ -9,7 +9,7 @@ use Rattle.laws.proofs.Tests.{Catches, catches-as, catches-lt, catches-le, catc
 use Rattle.table.specs.declared.record.Record.{Record}
 use Rattle.table.specs.declared.rules.SoFar.{SoFar}
 use Rattle.table.specs.Bytes.{record-of}
-use Rattle.table.specs.Rules.{off-run, bad-kind, too-many, has-zero, uneven}
+use Rattle.table.specs.TableRules.{off-run, bad-kind, too-many, has-zero, uneven}
 use Rattle.table.specs.WellFormed.{In-run, Kind-right, Has-room, Not-zero, Even, rules}
 use Rattle.table.proofs.KnownLaws.{Known, in-run-of, next-task, shared, on-before, on-first, on-kind, on-p}
 

@@ -9,12 +9,12 @@ use Rattle.laws.proofs.ReaderExact.{Said, said, faultless-read, faulty-read}
 use Rattle.model.specs.Task.{Table}
 use Rattle.table.specs.Bytes.{records}
 use Rattle.table.specs.declared.reader.Refusal.{Refusal}
-use Rattle.requests.specs.declared.rules.SoFar.{SoFar}
-use Rattle.requests.specs.declared.reader.Checked.{Checked}
-use Rattle.requests.specs.declared.reader.Checked.the-variants.{Legal, Refused}
-use Rattle.requests.specs.Reader.{reader-of, checked-in, check-of}
+use Rattle.requests.specs.declared.list_rules.SoFar.{SoFar}
+use Rattle.requests.specs.declared.list_reader.Checked.{Checked}
+use Rattle.requests.specs.declared.list_reader.Checked.the-variants.{Legal, Refused}
+use Rattle.requests.specs.ListReader.{reader-of, checked-in, check-of}
 use Rattle.requests.specs.Accepted.{Accepted}
-use Rattle.requests.specs.Refusals.{Refused-with}
+use Rattle.requests.specs.ListRefusals.{Refused-with}
 use Rattle.requests.proofs.CheckLaws.{check-stopped, check-whole, rules-of}
 
 -- what an answer says of the bytes

@@ -14,7 +14,7 @@ use Rattle.table.specs.declared.reader.Refusal.{Refusal}
 use Rattle.table.specs.declared.reader.Reading.{Reading}
 use Rattle.table.specs.declared.reader.Reading.the-variants.{Table, Refused}
 use Rattle.table.specs.Bytes.{size, most-records, records, record-of}
-use Rattle.table.specs.Rules.{none-yet, after-of}
+use Rattle.table.specs.TableRules.{none-yet, after-of}
 use Rattle.table.specs.WellFormed.{rules}
 
 -- 1: "table length 0, above 512, or not a multiple of 8"

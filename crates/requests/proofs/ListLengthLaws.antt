@@ -7,7 +7,7 @@ use Rattle.laws.proofs.Tests.{Catches, catches-as, catches-lt, catches-ne, catc
 use Rattle.table.specs.Bytes.{size}
 use Rattle.requests.specs.Entry.{most-requests}
 use Rattle.requests.specs.Accepted.{Length-right}
-use Rattle.requests.specs.Reader.{bad-length}
+use Rattle.requests.specs.ListReader.{bad-length}
 
 pub catches-length : (n : ℕ) → Catches (bad-length n) (Length-right n)
 catches-length n =

@@ -1,12 +1,12 @@
 // The reader of request lists: refusals 10 and 11.
-use crate::rules::SoFar;
+use crate::list_rules::SoFar;
 use table::plan::Plan;
 use table::reader::Refusal;
 use table::record::SIZE;
 ghost use mathlib.Core.Path.{_≡_};
 ghost use Rattle.table.specs.Ready.{Ready};
 ghost use Rattle.table.specs.TableOf.{table-of};
-ghost use Rattle.requests.specs.Reader.{bad-length, check-of, refusal-in};
+ghost use Rattle.requests.specs.ListReader.{bad-length, check-of, refusal-in};
 
 // The most requests of a list.
 pub const MOST_REQUESTS: usize = 128;
@@ -45,14 +45,14 @@ pub fn check_list<'a, 'b>(s: &'a [u8], plan: Plan, list: &'b [u8]) -> Checked
     let mut i: usize = 0;
     while i < n {
         let x = crate::entry::entry_at(list, i);
-        let f = crate::rules::fault(s, plan, b, x);
+        let f = crate::list_rules::fault(s, plan, b, x);
         if f != 0 {
             return Checked::Refused(Refusal {
                 number: f,
                 index: i,
             });
         }
-        b = crate::rules::after(s, plan, b, x);
+        b = crate::list_rules::after(s, plan, b, x);
         i += 1;
     }
     Checked::Legal(n)

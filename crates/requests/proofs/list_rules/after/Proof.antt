@@ -1,10 +1,10 @@
--- `requests::rules::after` meets its contract: the record's task has one of the 16 places, and both arrays are set
+-- `requests::list_rules::after` meets its contract: the record's task has one of the 16 places, and both arrays are set
 -- there.
 -- Assumes nothing.
 use borrow.Author.Needs.{needs}
 use Rattle.requests.proofs.PlacedLaws.{known-low}
-use Rattle.requests.proofs.rules.after.Statement.{statement}
-use Rattle.requests.proofs.rules.after.Tie as tie
+use Rattle.requests.proofs.list_rules.after.Statement.{statement}
+use Rattle.requests.proofs.list_rules.after.Tie as tie
 
 array-write-next : tie.Need-array-write-next
 array-write-next c =

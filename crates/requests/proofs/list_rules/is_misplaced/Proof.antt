@@ -1,9 +1,9 @@
--- `requests::rules::is_misplaced` meets its contract: the tests stand as in the rule.
+-- `requests::list_rules::is_misplaced` meets its contract: the tests stand as in the rule.
 -- Assumes nothing.
 use borrow.Author.Needs.{needs}
 use Rattle.requests.proofs.PlacedLaws.{misplaced-is}
-use Rattle.requests.proofs.rules.is_misplaced.Statement.{statement}
-use Rattle.requests.proofs.rules.is_misplaced.Tie as tie
+use Rattle.requests.proofs.list_rules.is_misplaced.Statement.{statement}
+use Rattle.requests.proofs.list_rules.is_misplaced.Tie as tie
 
 returns : tie.Need-returns
 returns c =

@@ -1,9 +1,9 @@
--- `requests::rules::fault` meets its contract: rule 10 before rule 11, which asks only about a task of the table.
+-- `requests::list_rules::fault` meets its contract: rule 10 before rule 11, which asks only about a task of the table.
 -- Assumes nothing.
 use borrow.Author.Needs.{needs}
 use Rattle.requests.proofs.PlacedLaws.{passed-low, fault-10, fault-11, fault-none}
-use Rattle.requests.proofs.rules.fault.Statement.{statement}
-use Rattle.requests.proofs.rules.fault.Tie as tie
+use Rattle.requests.proofs.list_rules.fault.Statement.{statement}
+use Rattle.requests.proofs.list_rules.fault.Tie as tie
 
 returns : tie.Need-returns
 returns c =

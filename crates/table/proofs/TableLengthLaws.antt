@@ -5,7 +5,7 @@ use mathlib.Core.Path.{_≡_}
 use native.Mathlib.Omega.{arith}
 use Rattle.laws.proofs.Tests.{Catches, catches-as, catches-eq, catches-lt, catches-ne, catches-or}
 use Rattle.table.specs.Bytes.{size, most-records}
-use Rattle.table.specs.Reader.{bad-length}
+use Rattle.table.specs.TableReader.{bad-length}
 use Rattle.table.specs.WellFormed.{Length-right}
 
 pub catches-length : (n : ℕ) → Catches (bad-length n) (Length-right n)

@@ -5,6 +5,9 @@ pub mod OverloadVerdicts
 pub mod OrdersRight
 pub mod ListExact
 pub mod StepLaws
+pub mod EveryExact
+pub mod EveryNumbered
+pub mod FormsKept
 pub mod EveryLaws
 pub mod OneAnswerLaws
 pub mod SettledLaws
@@ -15,6 +18,7 @@ pub mod WrittenBack
 pub mod OverloadedLaws
 pub mod BenchLaws
 pub mod NumberLaws
+pub mod FlatSays
 pub mod CallerLaws
 pub mod RowLaws
 pub mod SameLaws

@@ -9,9 +9,10 @@ use base.Fml.{Lft}
 use denote.Ref.{now}
 use Rattle.model.specs.Answer.{refused}
 use Rattle.desk.specs.FlatList.{seen}
-use Rattle.promise.specs.Given.{Exactly, Numbers-one}
+use Rattle.promise.specs.Given.{Exactly}
 use Rattle.promise.specs.Forms.{read-back}
 use Rattle.promise.specs.Asked.{Question, row}
+use Rattle.promise.specs.RefusalCases.{Numbers-one}
 use Rattle.promise.specs.Contracts.{Slice, Free, Allows}
 
 -- of the bytes s

@@ -6,11 +6,8 @@ use mathlib.Core.List.{List}
 use Prim.Native.Nat.{ℕ}
 use base.Fml.{Lft}
 use denote.Ref.{now, at-last}
-use lib.ListN.{length}
-use Rattle.model.specs.Demand as Rule
-use Rattle.model.specs.Response as Recurrence
-use Rattle.model.specs.Verdict as Judge
-use Rattle.table.specs.Bytes.{Bytes, records}
+use Rattle.table.specs.Bytes.{Bytes}
+use Rattle.table.specs.TableOf.{table-of}
 use Rattle.desk.specs.Orders.{table-only, time-order, task-order, frame-order, size-order, writing-order, list-in}
 use Rattle.desk.specs.Questions.{read-asked, demand-asked, work-asked, margin-asked, window-asked, verdict-asked, response-asked, size-asked, overload-asked}
 use Rattle.desk.specs.ListQuestions.{counts, loads, replays, list-asked, load-asked, replay-asked}
@@ -26,23 +23,19 @@ use Rattle.promise.proofs.QuickLaws.{Quick, as-said, verdict-quick, siz
 use Rattle.promise.proofs.OneAnswerLaws.{one-of}
 
 module _ (s : List ℕ) (bytes : Bytes s) where
-  pub told : (q : Question) → Told (row s q .Given) (row s q .said) (row s q .form)
+  pub told : (q : Question) → Told (row s q .Given) (row s q .said) (row s q .ask (table-of s)) (row s q .form)
   unfolding read-asked demand-asked work-asked margin-asked window-asked verdict-asked response-asked size-asked
       overload-asked list-asked load-asked replay-asked numbers-one
-  told read =
-      by-order s shape-kept table-only (λ table. record { records = records s; tasks = table .tasks }) (λ well. tt) refl
+  told read = by-order s shape-kept table-only (row s read .ask) (λ well. tt) refl
   told (demand k t) =
-      by-order s amount-kept (task-order k t) (λ table. Rule.demand (table .task k) t) (λ well. task-right s k t) refl
-  told (work k w) =
-      by-order s amount-kept (task-order k w) (λ table. Rule.work (table .task k) w) (λ well. task-right s k w) refl
-  told (margin t) =
-      by-order s margin-kept (time-order t) (λ table. Rule.margin table t) (λ well. time-right s t) refl
-  told window = by-order s window-kept table-only (Judge.closing-window Judge.horizon) (λ well. tt) refl
-  told verdict = by-order s verdict-kept table-only (Judge.verdict Judge.horizon) (λ well. tt) refl
+      by-order s amount-kept (task-order k t) (row s (demand k t) .ask) (λ well. task-right s k t) refl
+  told (work k w) = by-order s amount-kept (task-order k w) (row s (work k w) .ask) (λ well. task-right s k w) refl
+  told (margin t) = by-order s margin-kept (time-order t) (row s (margin t) .ask) (λ well. time-right s t) refl
+  told window = by-order s window-kept table-only (row s window .ask) (λ well. tt) refl
+  told verdict = by-order s verdict-kept table-only (row s verdict .ask) (λ well. tt) refl
   told (response k i) =
-      by-order s response-kept (frame-order k i) (λ table. Recurrence.response table k i) (λ well. frame-right s k i)
-      refl
-  told overload-size = by-order s size-kept size-order (λ table. length (list-in table)) (size-right s bytes) refl
+      by-order s response-kept (frame-order k i) (row s (response k i) .ask) (λ well. frame-right s k i) refl
+  told overload-size = by-order s size-kept size-order (row s overload-size .ask) (size-right s bytes) refl
   told (overload buffer place) =
       by-order s written-kept (writing-order buffer place) list-in (λ well. writing-right s bytes well buffer place)
       refl

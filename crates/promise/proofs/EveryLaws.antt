@@ -1,4 +1,5 @@
--- What holds of every question, put together: refused exactly, by a number of the document's table, and nothing lost.
+-- What holds of every question, put together: refused exactly, by a number of the document's table, answered by the
+-- definitions, and nothing lost.
 -- Assumes nothing.
 use mathlib.Core.Path.{_≡_}
 use mathlib.Core.List.{List}
@@ -18,6 +19,7 @@ every-question s bytes q =
     λ number index is. its .numbered number index (its .exact .only number index is) in
     record {
       exact = its .exact;
+      gives = its .gives;
       numbered = one;
       kept = kept-back (row s q .form) (its .keeps) (row s q .said) one;
     }

@@ -149,7 +149,7 @@ struct limpidorsa_loaded {
     struct limpidorsa_state state;
 };
 
-/* What the bytes are as a table. Refuses with 1 to 6, as every question does first. */
+/* What the bytes are as a table. Refuses by the rules of a table, as every question does first. */
 struct limpidorsa_shape limpidorsa_read(const uint8_t *table, size_t table_len);
 
 /* The demand of a task at t. Refuses with 9, then 7. */

@@ -4,11 +4,9 @@ use Prim.Native.Nat.{ℕ, _*_, _≤_, _<_}
 use mathlib.Core.Path.{_≡_, sym, ap, ap₂, _∙_}
 use mathlib.Core.List.{List}
 use native.Mathlib.Omega.{arith}
-use lib.IntN.{ℤ}
 use lib.ListN.{length}
 use borrow.Author.Tests.{lt-ltb, le-ltb, le-leb, lt-leb}
-use Rattle.model.specs.Task.{Task}
-use Rattle.model.specs.Demand.{margin}
+use Rattle.model.specs.Task.{Task, Table}
 use Rattle.model.specs.Verdict.{horizon, closing-window, verdict}
 use Rattle.model.specs.Answer.{Answer, answered, refused}
 use Rattle.table.specs.declared.reader.Shape.{Shape}
@@ -21,7 +19,7 @@ use Rattle.table.specs.TableOf.{table-of, plan-of}
 use Rattle.table.specs.declared.plan.Plan.{Plan}
 use Rattle.table.proofs.TableReaderExact.{shaped}
 use Rattle.table.proofs.ReadyLaws.{ready-read, ready-tasks}
-use Rattle.desk.specs.Questions.{after-reading, read-asked, one-task, margin-asked, window-asked, verdict-asked}
+use Rattle.desk.specs.Questions.{after-reading, read-asked, one-task, at-time, window-asked, verdict-asked}
 
 -- the table's refusal is passed on, whatever else would be said
 pub passed-on : {A : Type 0} (s : List ℕ) (said : Answer A) {r : Reading} {y no : Refusal} → r ≡ reading-of s
@@ -64,15 +62,14 @@ module _ (s : List ℕ) (shape : Shape) (read : reading-of s ≡ reading.Table s
     task-answered inside near is =
         rw (read, lt-leb (table-of s .tasks) k (omega (arith, tasks)), le-ltb horizon t near, is)
 
-  -- ---- the margin: 7
+  -- ---- the whole table at a time: 7
 
-  pub margin-too-far : (t : ℕ) → horizon < t → refused 7 0 ≡ margin-asked s t
-  unfolding margin-asked
-  margin-too-far t far = rw (read, lt-ltb horizon t far)
+  module _ {A : Type 0} (ask : Table → ℕ → A) (t : ℕ) where
+    pub time-too-far : horizon < t → refused 7 0 ≡ at-time ask s t
+    time-too-far far = rw (read, lt-ltb horizon t far)
 
-  pub margin-answered : (t : ℕ) {m : ℤ} → t ≤ horizon → m ≡ margin (table-of s) t → answered m ≡ margin-asked s t
-  unfolding margin-asked
-  margin-answered t near is = rw (read, le-ltb horizon t near, is)
+    pub time-answered : {value : A} → t ≤ horizon → value ≡ ask (table-of s) t → answered value ≡ at-time ask s t
+    time-answered near is = rw (read, le-ltb horizon t near, is)
 
   -- ---- the window and the verdict: nothing more
 

@@ -46,8 +46,11 @@ demand-asked s k t = one-task demand s k t
 unfoldable pub work-asked : List ℕ → ℕ → ℕ → Answer ℕ
 work-asked s k w = one-task work s k w
 
+abbrev pub at-time : {A : Type 0} → (Table → ℕ → A) → List ℕ → ℕ → Answer A
+at-time ask s t = asked s (time-order t) (λ table. ask table t)
+
 unfoldable pub margin-asked : List ℕ → ℕ → Answer ℤ
-margin-asked s t = asked s (time-order t) (λ table. margin table t)
+margin-asked s t = at-time margin s t
 
 unfoldable pub window-asked : List ℕ → Answer Found
 window-asked s = asked s table-only (closing-window horizon)

@@ -13,7 +13,7 @@ ghost use Rattle.sums.specs.Sized.{most-by};
 ghost use Rattle.desk.specs.Questions.{read-asked, one-task, demand-asked, work-asked, margin-asked};
 ghost use Rattle.desk.specs.Flat.{flat-shape, flat-amount, flat-margin};
 
-// What the bytes are as a table. Refuses with 1 to 6, as every question does first.
+// What the bytes are as a table. Refuses by the rules of a table, as every question does first.
 #[no_mangle]
 pub extern "C" fn limpidorsa_read(table: &[u8]) -> Shape
     ensures { λ r. ⌜ r ≡ flat-shape (read-asked (now (table .entry))) ⌝ }

@@ -1,39 +1,57 @@
--- Every question is refused exactly: by its order, or by the rules of lists.
+-- How a question is shown to be refused exactly and by numbers of the document's table, answered by the definitions
+-- where it is not refused, with nothing of its answer lost: by its order, or by the rules of lists, and by its form.
 -- Assumes nothing.
+use mathlib.Core.Path.{_≡_, ap, _∙_}
+use mathlib.Core.Bool.{true}
 use mathlib.Core.List.{List}
 use Prim.Native.Nat.{ℕ}
-use Rattle.model.specs.Demand as Rule
-use Rattle.model.specs.Response as Recurrence
-use Rattle.model.specs.Verdict as Judge
-use Rattle.model.specs.Answer.{refused}
-use Rattle.table.specs.Bytes.{Bytes, records}
-use Rattle.desk.specs.Orders.{table-only, time-order, task-order, frame-order, size-order, writing-order, list-in}
-use Rattle.desk.specs.Questions.{read-asked, demand-asked, work-asked, margin-asked, window-asked, verdict-asked, response-asked, size-asked, overload-asked}
-use Rattle.desk.specs.ListQuestions.{counts, loads, replays, list-asked, load-asked, replay-asked}
-use lib.ListN.{length}
-use Rattle.promise.specs.Given.{Given, Exactly}
-use Rattle.promise.specs.Asked.{Question, read, demand, work, margin, window, verdict, response, overload-size, overload, list, load, replay, row}
-use Rattle.promise.proofs.OrderExact.{order-exact}
-use Rattle.promise.proofs.OrdersRight.{time-right, task-right, frame-right, size-right, writing-right}
-use Rattle.promise.proofs.ListExact.{list-exact}
+use Rattle.laws.specs.Ladder.{all-numbers}
+use Rattle.laws.proofs.LadderLaws.{Caught}
+use Rattle.model.specs.Task.{Table}
+use Rattle.model.specs.Request.{Requests}
+use Rattle.model.specs.Answer.{Answer, answered}
+use Rattle.table.specs.TableOf.{table-of}
+use Rattle.table.specs.WellFormed.{WellFormed}
+use Rattle.requests.specs.Entry.{list-of}
+use Rattle.desk.specs.Orders.{Order}
+use Rattle.desk.specs.Questions.{asked}
+use Rattle.desk.specs.ListQuestions.{on-list}
+use Rattle.promise.specs.Given.{Given, List-given, Exactly}
+use Rattle.promise.specs.Forms.{Form}
+use Rattle.promise.specs.RefusalCases.{Numbers-one}
+use Rattle.promise.proofs.OrderExact.{order-exact, order-kept}
+use Rattle.promise.proofs.ListExact.{list-exact, good-answered, answered-good}
+use Rattle.promise.proofs.EveryNumbered.{numbers-one, list-numbered, order-numbered}
+use Rattle.promise.proofs.FormsKept.{Kept}
 
-module _ (s : List ℕ) (bytes : Bytes s) where
-  pub exact : (q : Question) → Exactly (row s q .Given) (row s q .said)
-  unfolding read-asked demand-asked work-asked margin-asked window-asked verdict-asked response-asked size-asked
-      overload-asked list-asked load-asked replay-asked
-  exact read = order-exact s table-only (λ table. record { records = records s; tasks = table .tasks }) (λ well. tt)
-  exact (demand k t) =
-      order-exact s (task-order k t) (λ table. Rule.demand (table .task k) t) (λ well. task-right s k t)
-  exact (work k w) =
-      order-exact s (task-order k w) (λ table. Rule.work (table .task k) w) (λ well. task-right s k w)
-  exact (margin t) = order-exact s (time-order t) (λ table. Rule.margin table t) (λ well. time-right s t)
-  exact window = order-exact s table-only (Judge.closing-window Judge.horizon) (λ well. tt)
-  exact verdict = order-exact s table-only (Judge.verdict Judge.horizon) (λ well. tt)
-  exact (response k i) =
-      order-exact s (frame-order k i) (λ table. Recurrence.response table k i) (λ well. frame-right s k i)
-  exact overload-size = order-exact s size-order (λ table. length (list-in table)) (size-right s bytes)
-  exact (overload buffer place) =
-      order-exact s (writing-order buffer place) list-in (λ well. writing-right s bytes well buffer place)
-  exact (list l) = list-exact counts s l
-  exact (load l) = list-exact loads s l
-  exact (replay l) = list-exact replays s l
+pub record Told {A : Type 0} (Given : ℕ → ℕ → Type 0) (said : Answer A) (value : A) (form : Form A) : Type 0 where
+  pub exact : Exactly Given said
+  pub gives : ((number index : ℕ) → Given number index → ⊥) → said ≡ answered value
+  pub numbered : (number index : ℕ) → Given number index → Numbers-one number
+  pub keeps : Kept form
+
+module _ {A : Type 0} {form : Form A} (s : List ℕ) (keeps : Kept form) where
+  -- each test of the order is right, and its numbers are of the table
+  pub by-order : (order : Order) (ask : Table → A) → (WellFormed s → Caught order s s)
+      → all-numbers numbers-one order ≡ true → Told (Given s order) (asked s order ask) (ask (table-of s)) form
+  by-order order ask right all =
+      let exact = order-exact s order ask right in
+      record {
+        exact = exact;
+        gives = λ none.
+            let (well, same, keeps) = order-kept s order ask right (exact .answers none .is) in
+            exact .answers none .is ∙ ap answered same;
+        numbered = order-numbered s order all;
+        keeps = keeps;
+      }
+
+  pub by-list : (l : List ℕ) (ask : Table → Requests → A)
+      → Told (List-given s l) (on-list s l ask) (ask (table-of s) (list-of l)) form
+  by-list l ask =
+      let exact = list-exact ask s l in
+      record {
+        exact = exact;
+        gives = λ none. good-answered ask s l (answered-good ask s l (exact .answers none .is));
+        numbered = list-numbered s l;
+        keeps = keeps;
+      }

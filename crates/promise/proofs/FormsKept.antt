@@ -1,7 +1,6 @@
 -- Nothing of an answer is lost in its flat struct, form by form.
 -- Assumes nothing.
 use mathlib.Core.Path.{_≡_, refl, ap}
-use mathlib.Core.List.{List}
 use Prim.Native.Nat.{ℕ}
 use native.Mathlib.Omega.{arith}
 use borrow.Author.Tests.{ne-eqb}
@@ -10,14 +9,12 @@ use Rattle.model.specs.Response as Recurrence
 use Rattle.model.specs.Verdict as Judge
 use Rattle.model.specs.Replay.{missed, all-met}
 use Rattle.model.specs.Answer.{Answer, answered, refused}
-use Rattle.table.specs.Bytes.{records}
 use Rattle.desk.specs.Flat.{refusal, flat-shape, flat-amount, flat-margin, flat-window}
 use Rattle.desk.specs.FlatVerdict.{flat-verdict, flat-response}
 use Rattle.desk.specs.FlatList.{seen, flat-written, flat-listed, flat-ending}
 use Rattle.desk.specs.FlatBench.{flat-loaded}
-use Rattle.promise.specs.Given.{Numbers-one}
-use Rattle.promise.specs.Forms.{Form, read-back, amount-form}
-use Rattle.promise.specs.Asked.{Question, read, demand, work, margin, window, verdict, response, overload-size, overload, list, load, replay, row}
+use Rattle.promise.specs.Forms.{Form, read-back, shape-form, amount-form, margin-form, window-form, verdict-form, response-form, size-form, written-form, listed-form, loading-form, ending-form}
+use Rattle.promise.specs.RefusalCases.{Numbers-one}
 use Rattle.promise.proofs.StepLaws.{state-kept}
 
 -- of a form: an answer is read back from what its struct holds, a refusal from the refusal in front
@@ -33,37 +30,63 @@ kept-back form kept (refused number index) one =
     let from = one number index refl .from in
     rw (kept .front number index, ne-eqb number 0 (λ is. omega arith))
 
-amount-kept : Kept amount-form
+-- ---- one for each kind of answer
+
+pub shape-kept : Kept shape-form
+unfolding flat-shape
+shape-kept = record { back = λ x. refl; front = λ number index. refl }
+
+pub amount-kept : Kept amount-form
 unfolding flat-amount
 amount-kept = record { back = λ x. refl; front = λ number index. refl }
 
-pub forms-kept : (s : List ℕ) (q : Question) → Kept (row s q .form)
-unfolding flat-shape flat-margin flat-window flat-verdict flat-response flat-written flat-listed flat-loaded flat-ending
-forms-kept s read = record { back = λ x. refl; front = λ number index. refl }
-forms-kept s (demand k t) = amount-kept
-forms-kept s (work k w) = amount-kept
-forms-kept s (margin t) = record { back = λ x. refl; front = λ number index. refl }
-forms-kept s window =
-    record { back = λ x. elim x [ at w ↦ refl | nowhere ↦ refl ]; front = λ number index. refl }
-forms-kept s verdict =
+pub margin-kept : Kept margin-form
+unfolding flat-margin
+margin-kept = record { back = λ x. refl; front = λ number index. refl }
+
+pub window-kept : Kept window-form
+unfolding flat-window
+window-kept = record { back = λ x. elim x [ at w ↦ refl | nowhere ↦ refl ]; front = λ number index. refl }
+
+pub verdict-kept : Kept verdict-form
+unfolding flat-verdict
+verdict-kept =
     record {
       back = λ x. elim x [ Judge.overloaded t m starts ↦ refl | Judge.fits w m t ↦ refl | Judge.undecided ↦ refl ];
       front = λ number index. refl;
     }
-forms-kept s (response k i) =
+
+pub response-kept : Kept response-form
+unfolding flat-response
+response-kept =
     record {
       back = λ x. elim x [ Recurrence.on-time value rounds ↦ refl | Recurrence.late value round ↦ refl ];
       front = λ number index. refl;
     }
-forms-kept s overload-size = record { back = λ x. refl; front = λ number index. refl }
-forms-kept s (overload buffer place) = record { back = λ x. refl; front = λ number index. refl }
-forms-kept s (list l) = record { back = λ x. refl; front = λ number index. refl }
-forms-kept s (load l) =
+
+pub size-kept : Kept size-form
+unfolding flat-written
+size-kept = record { back = λ x. refl; front = λ number index. refl }
+
+pub written-kept : Kept written-form
+unfolding flat-written
+written-kept = record { back = λ x. refl; front = λ number index. refl }
+
+pub listed-kept : Kept listed-form
+unfolding flat-listed
+listed-kept = record { back = λ x. refl; front = λ number index. refl }
+
+pub loading-kept : Kept loading-form
+unfolding flat-loaded
+loading-kept =
     record {
       back = λ x. ap (λ b. answered (record { records = x .records; bench = b })) (state-kept (x .bench));
       front = λ number index. refl;
     }
-forms-kept s (replay l) =
+
+pub ending-kept : Kept ending-form
+unfolding flat-ending
+ending-kept =
     record {
       back = λ x. elim x [ missed tick index ↦ refl | all-met tick ↦ refl ];
       front = λ number index. refl;

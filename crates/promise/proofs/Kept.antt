@@ -16,7 +16,7 @@ use Rattle.promise.proofs.WritingExact.{lent-leaves}
 use Rattle.promise.proofs.PassedLaws.{passed}
 use Rattle.promise.proofs.OverloadedLaws.{overloaded-shown}
 use Rattle.promise.proofs.JudgedLaws.{judged-rightly}
-use Rattle.promise.proofs.OneAnswerLaws.{one-answer}
+use Rattle.promise.proofs.EachQuestion.{one-answer}
 use Rattle.promise.proofs.SettledLaws.{settled-each}
 use Rattle.promise.proofs.StepLaws.{stepped, idle-zero}
 use Rattle.promise.proofs.NamedLaws.{named-right, cited}

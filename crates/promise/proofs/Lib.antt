@@ -5,11 +5,14 @@ pub mod OverloadVerdicts
 pub mod OrdersRight
 pub mod ListExact
 pub mod StepLaws
-pub mod EveryExact
 pub mod EveryNumbered
 pub mod FormsKept
-pub mod EveryLaws
+pub mod EveryExact
+pub mod SameLaws
+pub mod QuickLaws
 pub mod OneAnswerLaws
+pub mod EachQuestion
+pub mod EveryLaws
 pub mod SettledLaws
 pub mod JudgedLaws
 pub mod PassedLaws
@@ -21,7 +24,6 @@ pub mod NumberLaws
 pub mod FlatSays
 pub mod CallerLaws
 pub mod RowLaws
-pub mod SameLaws
 pub mod NamedLaws
 pub mod CaseLaws
 pub mod PassedExample

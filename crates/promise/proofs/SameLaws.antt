@@ -11,7 +11,6 @@ use Rattle.model.specs.Verdict.{Verdict, overloaded, fits, undecided}
 use Rattle.model.specs.Replay.{Replayed, missed, all-met}
 use Rattle.model.specs.Response.{Response, on-time, late}
 use Rattle.model.specs.Answer.{Answer, answered, refused}
-use Rattle.promise.specs.Asked.{Question, read, demand, work, margin, window, verdict, response, overload-size, overload, list, load, replay, row}
 
 -- what is made of two numbers is the same where both are
 same-two : {A : Type 0} (make : ℕ → ℕ → A) (v n w m : ℕ) → T (eqb v w && eqb n m) → make v n ≡ make w m
@@ -24,7 +23,7 @@ same-int (pos a) (negsuc b) = false
 same-int (negsuc a) (pos b) = false
 same-int (negsuc a) (negsuc b) = eqb a b
 
-same-int-is : (a b : ℤ) → T (same-int a b) → a ≡ b
+pub same-int-is : (a b : ℤ) → T (same-int a b) → a ≡ b
 unfolding same-int
 same-int-is (pos a) (pos b) h = ap pos (eqb→eq a b h)
 same-int-is (pos a) (negsuc b) h = absurd h
@@ -121,33 +120,30 @@ same-answer-is same is (answered a) (refused n i) h = absurd h
 same-answer-is same is (refused m j) (answered b) h = absurd h
 same-answer-is same is (refused m j) (refused n i) h = same-two refused m j n i h
 
--- ---- whatever a question gets. What nobody names is never the same: a number read, a window and a bench
+-- ---- by kind
 
-unfoldable pub same-said : (s : List ℕ) (q : Question) → (x y : row s q .Says) → Bool
-same-said s read x y = false
-same-said s (demand k t) x y = eqb x y
-same-said s (work k w) x y = eqb x y
-same-said s (margin t) x y = same-int x y
-same-said s window x y = false
-same-said s verdict x y = same-verdict x y
-same-said s (response k i) x y = same-response x y
-same-said s overload-size x y = eqb x y
-same-said s (overload buffer place) x y = same-list x y
-same-said s (list l) x y = eqb x y
-same-said s (load l) x y = false
-same-said s (replay l) x y = same-replay x y
+pub record Test (A : Type 0) : Type 0 where
+  pub same : A → A → Bool
+  pub is : (a b : A) → T (same a b) → a ≡ b
 
-pub same-said-is : (s : List ℕ) (q : Question) (x y : row s q .Says) → T (same-said s q x y) → x ≡ y
-unfolding same-said
-same-said-is s read x y h = absurd h
-same-said-is s (demand k t) x y h = eqb→eq x y h
-same-said-is s (work k w) x y h = eqb→eq x y h
-same-said-is s (margin t) x y h = same-int-is x y h
-same-said-is s window x y h = absurd h
-same-said-is s verdict x y h = same-verdict-is x y h
-same-said-is s (response k i) x y h = same-response-is x y h
-same-said-is s overload-size x y h = eqb→eq x y h
-same-said-is s (overload buffer place) x y h = same-list-is x y h
-same-said-is s (list l) x y h = eqb→eq x y h
-same-said-is s (load l) x y h = absurd h
-same-said-is s (replay l) x y h = same-replay-is x y h
+abbrev pub numbers : Test ℕ
+numbers = record { same = eqb; is = eqb→eq }
+
+abbrev pub ints : Test ℤ
+ints = record { same = same-int; is = same-int-is }
+
+abbrev pub lists : Test (List ℕ)
+lists = record { same = same-list; is = same-list-is }
+
+abbrev pub verdicts : Test Verdict
+verdicts = record { same = same-verdict; is = same-verdict-is }
+
+abbrev pub responses : Test Response
+responses = record { same = same-response; is = same-response-is }
+
+abbrev pub replays : Test Replayed
+replays = record { same = same-replay; is = same-replay-is }
+
+-- what nobody names is never the same: what a table is, a window and a bench
+abbrev pub unnamed : {A : Type 0} → Test A
+unnamed = record { same = λ a b. false; is = λ a b h. absurd h }

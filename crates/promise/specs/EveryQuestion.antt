@@ -1,22 +1,27 @@
--- What holds of every question: it is refused exactly where the document says so, by a number of its table; nothing of
--- its answer is lost in the flat struct; and its function has one answer only, document 01, "Nothing left loose": "any
--- pair of answers allowed by it are the same".
+-- What holds of every question: it is refused exactly where the document says so, by a number of its table, and else
+-- answered by its definitions; nothing of its answer is lost in the flat struct; and its function has one answer only,
+-- document 01, "Nothing left loose": "any pair of answers allowed by it are the same".
 -- Assumes nothing.
 use mathlib.Core.Path.{_≡_}
 use mathlib.Core.List.{List}
 use Prim.Native.Nat.{ℕ}
 use base.Fml.{Lft}
 use denote.Ref.{now}
-use Rattle.model.specs.Answer.{refused}
+use Rattle.model.specs.Answer.{answered, refused}
+use Rattle.table.specs.TableOf.{table-of}
 use Rattle.desk.specs.FlatList.{seen}
-use Rattle.promise.specs.Given.{Exactly, Numbers-one}
+use Rattle.promise.specs.Given.{Exactly}
 use Rattle.promise.specs.Forms.{read-back}
 use Rattle.promise.specs.Asked.{Question, row}
+use Rattle.promise.specs.RefusalCases.{Numbers-one}
 use Rattle.promise.specs.Contracts.{Slice, Free, Allows}
 
 -- of the bytes s
 pub record Every-question (s : List ℕ) (q : Question) : Type 0 where
   pub exact : Exactly (row s q .Given) (row s q .said)
+  -- where it gives none, the answer is what its definitions give of the table
+  pub gives : ((number index : ℕ) → row s q .Given number index → ⊥)
+      → row s q .said ≡ answered (row s q .ask (table-of s))
   pub numbered : (number index : ℕ) → row s q .said ≡ refused number index → Numbers-one number
   -- what a caller reads out of the flat answer is the answer
   pub kept : let form = row s q .form in read-back form (form .lay (row s q .said)) ≡ seen (form .look) (row s q .said)

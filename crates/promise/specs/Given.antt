@@ -1,7 +1,7 @@
 -- Which refusal the document gives a question, said of the bytes and numbers alone, in the order of document 01, "When
 -- the desk says no"; and what it is that a question gets it exactly then.
 -- Assumes nothing.
-use Prim.Native.Nat.{ℕ, _≤_}
+use Prim.Native.Nat.{ℕ}
 use mathlib.Core.Path.{_≡_}
 use mathlib.Core.Logic.{_⊎_}
 use mathlib.Core.List.{List}
@@ -52,14 +52,3 @@ pub record Exactly {A : Type 0} (Given : ℕ → ℕ → Type 0) (said : Answer 
   pub refuses : (number index : ℕ) → Given number index → said ≡ refused number index
   pub only : (number index : ℕ) → said ≡ refused number index → Given number index
   pub answers : ((number index : ℕ) → Given number index → ⊥) → Answered said
-
--- ---- the numbers
-
--- the last number of the document's table
-abbrev pub last-refusal : ℕ
-last-refusal = 13
-
--- a number of the table. It is not 0, which an answer has where nothing was refused: a caller may test it for that
-pub record Numbers-one (number : ℕ) : Type 0 where
-  pub from : 1 ≤ number
-  pub to : number ≤ last-refusal

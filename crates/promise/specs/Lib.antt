@@ -2,6 +2,7 @@ pub mod Tables
 pub mod Given
 pub mod Forms
 pub mod Asked
+pub mod RefusalCases
 pub mod Contracts
 pub mod EveryQuestion
 pub mod Settled
@@ -12,6 +13,5 @@ pub mod Writing
 pub mod Promises
 pub mod Callers
 pub mod Named
-pub mod RefusalCases
 pub mod Demands
 pub mod Examples

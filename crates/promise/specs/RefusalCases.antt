@@ -1,11 +1,25 @@
--- For each refusal of document 01, "When the desk says no", questions that get it, in each way that the document names.
--- 13 is not among them, for no verdict of a table that fits is computed here: RefusalExamples has it.
+-- The numbers of document 01's table, "When the desk says no"; and for each of its refusals questions that get it, in
+-- each way that the document names. 13 is not among them, for no verdict of a table that fits is computed here:
+-- RefusalExamples has it. A new refusal is its number and its cases.
 -- Assumes nothing.
 use mathlib.Core.List.{List, [], _∷_, _++_}
-use Prim.Native.Nat.{ℕ, zero, suc, _<_}
+use Prim.Native.Nat.{ℕ, zero, suc, _≤_, _<_}
 use lib.ListN.{length, getD}
 use Rattle.promise.specs.Tables.{rec, sporadic, A, B, req, twenty}
 use Rattle.promise.specs.Asked.{Question, demand, work, margin, verdict, replay, overload, response, row}
+
+-- ---- the numbers
+
+-- the last of them
+abbrev pub last-refusal : ℕ
+last-refusal = 13
+
+-- a number of the table. It is not 0, which an answer has where nothing was refused: a caller may test it for that
+pub record Numbers-one (number : ℕ) : Type 0 where
+  pub from : 1 ≤ number
+  pub to : number ≤ last-refusal
+
+-- ---- the cases
 
 -- the question, asked of the bytes, is refused with this number and this record
 pub record Case : Type 0 where

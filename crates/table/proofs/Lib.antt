@@ -3,7 +3,6 @@ pub mod Turns
 pub mod Counting
 pub mod KnownLaws
 pub mod KnownNext
-pub mod GoodRecords
 pub mod TableRuleLaws
 pub mod ReadLaws
 pub mod Rising

@@ -1,4 +1,4 @@
--- The answer at each end of the reading; and the rules 2 to 6, with what is known of the records passed, are rules by
+-- The answer at each end of the reading; and a record's rules, with what is known of the records passed, are rules by
 -- which a reader is exact.
 -- Assumes nothing.
 use Prim.Native.Nat.{ℕ}
@@ -19,8 +19,7 @@ use Rattle.table.specs.TableRefusals.{Breaks}
 use Rattle.table.proofs.TableLengthLaws.{catches-length}
 use Rattle.table.proofs.KnownLaws.{Known, known-start}
 use Rattle.table.proofs.KnownNext.{known-next}
-use Rattle.table.proofs.GoodRecords.{good-keeps, keeps-good, breaks-some}
-use Rattle.table.proofs.TableRuleLaws.{rules-caught}
+use Rattle.table.proofs.TableRuleLaws.{rules-caught, good-keeps, keeps-good, breaks-some}
 
 -- ---- the answer
 

@@ -1,16 +1,21 @@
--- Each test of the rules 2 to 6, with what is known of the records passed, is true exactly where its rule is broken.
+-- Each test of a record's rules, with what is known of the records passed, is true exactly where its rule is broken.
+-- And a good record is one that keeps every rule of the list, by name; and 0 is the number of none.
 -- Assumes nothing.
 use Prim.Native.Nat.{ℕ, _+_, _-_, _≤_, _<_}
-use mathlib.Core.Path.{_≡_, sym, _∙_}
+use mathlib.Core.Path.{_≡_, refl, sym, _∙_}
+use mathlib.Core.Bool.{false≢true}
 use mathlib.Core.List.{List}
+use lib.Dec.{ltb}
 use native.Mathlib.Omega.{arith}
-use Rattle.laws.proofs.LadderLaws.{Caught, rung}
+use Rattle.laws.specs.Ladder.{Keeps}
+use Rattle.laws.proofs.LadderLaws.{Caught, rung, breaks-number}
 use Rattle.laws.proofs.Tests.{Catches, catches-as, catches-lt, catches-le, catches-eq, catches-ne, catches-neither, catches-or, catches-when}
 use Rattle.table.specs.declared.record.Record.{Record}
 use Rattle.table.specs.declared.rules.SoFar.{SoFar}
 use Rattle.table.specs.Bytes.{record-of}
 use Rattle.table.specs.TableRules.{off-run, bad-kind, too-many, has-zero, uneven}
-use Rattle.table.specs.WellFormed.{In-run, Kind-right, Has-room, Not-zero, Even, rules}
+use Rattle.table.specs.WellFormed.{In-run, Kind-right, Has-room, Not-zero, Even, rules, Good}
+use Rattle.table.specs.TableRefusals.{Breaks}
 use Rattle.table.proofs.KnownLaws.{Known, in-run-of, next-task, shared, on-before, on-first, on-kind, on-p}
 
 -- what is left where the tests of the rules 3 to 6 are false, of record x after what is known, b
@@ -116,3 +121,15 @@ module _ {s : List ℕ} {i : ℕ} {b : SoFar} (known : Known s i b) where
       rung (catches-4 in-run) (λ has-room.
       rung catches-5 (λ not-zero.
       rung (catches-6 in-run kind-right) (λ even. tt)))))
+
+-- ---- a good record keeps them, by name
+
+pub good-keeps : {s : List ℕ} {j : ℕ} → Good s j → Keeps rules (s, j)
+good-keeps good = (good .in-run, (good .kind-right, (good .has-room, (good .not-zero, (good .even, tt)))))
+
+pub keeps-good : (s : List ℕ) (j : ℕ) → Keeps rules (s, j) → Good s j
+keeps-good s j (in-run, (kind-right, (has-room, (not-zero, (even, all))))) =
+    record { in-run = in-run; kind-right = kind-right; has-room = has-room; not-zero = not-zero; even = even }
+
+pub breaks-some : (s : List ℕ) (j : ℕ) → Breaks s j 0 → ⊥
+breaks-some s j breaks = false≢true (breaks-number (s, j) (ltb 0) rules refl 0 0 breaks)

@@ -1,4 +1,4 @@
--- The answer for any bytes taken as a table: document 01, "When the desk says no", refusals 1 to 6.
+-- The answer for any bytes taken as a table: document 01, "When the desk says no".
 -- "Tables are tested first: length, then records in order, in each record 2, 3, 4, 5, 6."
 -- Assumes nothing.
 use Prim.Native.Nat.{ℕ, _*_, _%_}
@@ -25,7 +25,7 @@ bad-length n = (eqb n 0 || ltb (most-records * size) n) || not (eqb (n % size) 0
 abbrev pub fault-of : SoFar → Record → ℕ
 fault-of b x = climb rules (λ number index. number) (b, x) 0
 
--- how a table is read: rule 1 by its length, then the rules 2 to 6 record by record
+-- how a table is read: rule 1 by its length, then the rules of a record, record by record
 abbrev pub reader-of : List ℕ → Reader SoFar Record
 reader-of s =
     record {

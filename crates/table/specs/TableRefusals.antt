@@ -1,4 +1,4 @@
--- Which refusal bytes get, said of the bytes alone: document 01, "When the desk says no", rows 1 to 6.
+-- Which refusal bytes get, said of the bytes alone: document 01, "When the desk says no".
 -- Assumes nothing.
 use Prim.Native.Nat.{ℕ}
 use mathlib.Core.Logic.{_⊎_}
@@ -9,7 +9,7 @@ use Rattle.laws.specs.Reader.{Bad-length, Bad-record}
 use Rattle.table.specs.Bytes.{records}
 use Rattle.table.specs.WellFormed.{Length-right, rules, Good}
 
--- refusals 2 to 6: the first rule that record j breaks, "in each record 2, 3, 4, 5, 6"
+-- of a record: the first rule that record j breaks, "in each record 2, 3, 4, 5, 6"
 abbrev pub Breaks : List ℕ → ℕ → ℕ → Type 0
 Breaks s j number = Ladder.Breaks rules (s, j) number 0
 

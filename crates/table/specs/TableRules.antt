@@ -1,5 +1,5 @@
--- The rules 2 to 6 as the reader tests them, record by record: document 01, "When the desk says no".
--- A test's name says how the rule is broken. What each rule says, and their order: WellFormed.
+-- A record's rules as the reader tests them: document 01, "When the desk says no". A test's name says how the rule is
+-- broken. What each rule says, and their order: WellFormed.
 -- Assumes nothing.
 use Prim.Native.Nat.{_+_}
 use mathlib.Core.Bool.{Bool, not, cond, _&&_, _||_}

@@ -1,4 +1,4 @@
-// The bytes of a table: its records, the rules 1 to 6, and where each task stands.
+// The bytes of a table: its records, the rules of it, and where each task stands.
 pub mod frame;
 pub mod plan;
 pub mod reader;

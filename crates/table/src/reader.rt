@@ -1,4 +1,4 @@
-// The table reader: refusals 1 to 6.
+// The table reader: the refusals of a table itself.
 use crate::record::SIZE;
 use crate::rules::SoFar;
 ghost use mathlib.Core.Path.{_≡_};

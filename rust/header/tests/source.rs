@@ -1,5 +1,6 @@
 //! The program run on the small repository of tests/source: what it writes, and what it says of files that differ.
 use std::fs;
+use std::ops::Deref;
 use std::path::{Path, PathBuf};
 use std::process::{Command, Output};
 
@@ -22,12 +23,27 @@ fn said(output: &Output) -> String {
     String::from_utf8_lossy(&output.stdout).into_owned() + &String::from_utf8_lossy(&output.stderr)
 }
 
-// A copy of the small repository, with its sources under their own names.
-fn copy(name: &str) -> PathBuf {
-    let to = Path::new(env!("CARGO_TARGET_TMPDIR")).join(name);
-    let _ = fs::remove_dir_all(&to);
+// A copy of the small repository, with its sources under their own names, which goes with the test. It stands outside
+// this repository: the gate would take its sources for lost ones.
+struct Copied(PathBuf);
+
+impl Deref for Copied {
+    type Target = Path;
+    fn deref(&self) -> &Path {
+        &self.0
+    }
+}
+
+impl Drop for Copied {
+    fn drop(&mut self) {
+        let _ = fs::remove_dir_all(&self.0);
+    }
+}
+
+fn copy(name: &str) -> Copied {
+    let to = std::env::temp_dir().join(format!("limpidorsa-header-{}-{name}", std::process::id()));
     copy_folder(&fixture(), &to);
-    to
+    Copied(to)
 }
 
 // Rattle's files end in .rt.txt here: a file that ends in .rt and belongs to no crate shuts the gate.

@@ -73,7 +73,7 @@ impl Ask<'_> {
         if number == 0 {
             return Ok(Some(first));
         }
-        let known = NUMBERS.get(number - 1).copied();
+        let known = NUMBERS.get(number - 1).map(String::as_str);
         self.counts
             .add(Section::Refusals, known.unwrap_or("of no number"), 1);
         Ok(None)

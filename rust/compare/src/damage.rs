@@ -1,4 +1,4 @@
-//! A good table damaged, so that refusals 1 to 6 show.
+//! A good table damaged, so that every refusal of a table shows.
 use crate::faults::FAULTS;
 use crate::record::{records_of, table_of};
 use crate::rng::Rng;

@@ -1,4 +1,4 @@
-//! The faults of a table's records: each way in which refusals 2 to 6 can show, at any record.
+//! The faults of a table's records: each way in which a record can be refused, at any record.
 #![allow(
     clippy::ptr_arg,
     reason = "some faults put records in, and all are of one type"

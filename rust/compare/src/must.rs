@@ -3,11 +3,11 @@ use crate::counts::Section::{Compared, Endings, Lines, Questions, Refusals, Resp
 use crate::counts::{Counts, Section};
 use desk::LAST_REFUSAL;
 use limpidorsa::questions::QUESTIONS;
+use std::sync::LazyLock;
 
-// With a space before the short ones, so that they stand in the order of the numbers.
-pub const NUMBERS: [&str; LAST_REFUSAL as usize] = [
-    " 1", " 2", " 3", " 4", " 5", " 6", " 7", " 8", " 9", "10", "11", "12", "13",
-];
+// The refusals' numbers, with a space before the short ones, so that they stand in their order.
+pub static NUMBERS: LazyLock<Vec<String>> =
+    LazyLock::new(|| (1..=LAST_REFUSAL).map(|number| format!("{number:>2}")).collect());
 pub const VERDICTS: [&str; 3] = ["overloaded", "fits", "undecided"];
 pub const RESPONSES: [&str; 2] = ["on time", "late"];
 pub const ENDINGS: [&str; 2] = ["miss", "all met"];
@@ -18,38 +18,36 @@ pub const NO_WINDOW: &str = "windows, none";
 pub const LONG_LIST: &str = "overload lists longer than the bench takes";
 pub const SIZES: &str = "sizes of overload lists";
 
-// The functions of the library that answer a question.
-const CALLS: [&str; 12] = [
-    "read",
-    "demand",
-    "work",
-    "margin",
-    "window",
-    "verdict",
-    "response",
-    "overload-size",
-    "overload",
-    "list",
-    "replay",
-    "load",
-];
+// The questions of the command line that the program answers by several calls, and what is asked by a call alone.
+const BY_SEVERAL: [&str; 3] = ["responses", "overload-list", "trace"];
+const BY_CALL_ALONE: [&str; 1] = ["load"];
 
-// What every run must meet besides each question of the command line, and how one of them is called.
-const MUST: [(Section, &str, &[&str]); 6] = [
-    (Questions, "call of", &CALLS),
-    (Compared, "any", &[AT_LAST_T, NO_WINDOW, LONG_LIST, SIZES]),
-    (Refusals, "refusal", &NUMBERS),
-    (Verdicts, "verdict", &VERDICTS),
-    (Responses, "response", &RESPONSES),
-    (Endings, "ending", &ENDINGS),
-];
+// The functions of the library that answer a question.
+fn calls() -> impl Iterator<Item = &'static str> {
+    let asked = QUESTIONS.iter().map(|question| question.name);
+    asked
+        .filter(|name| !BY_SEVERAL.contains(name))
+        .chain(BY_CALL_ALONE)
+}
+
+// What every run must meet, and how one of them is called.
+fn must() -> [(Section, &'static str, Vec<&'static str>); 7] {
+    let lines = QUESTIONS.iter().map(|question| question.name).collect();
+    [
+        (Lines, "line of", lines),
+        (Questions, "call of", calls().collect()),
+        (Compared, "any", vec![AT_LAST_T, NO_WINDOW, LONG_LIST, SIZES]),
+        (Refusals, "refusal", NUMBERS.iter().map(String::as_str).collect()),
+        (Verdicts, "verdict", VERDICTS.to_vec()),
+        (Responses, "response", RESPONSES.to_vec()),
+        (Endings, "ending", ENDINGS.to_vec()),
+    ]
+}
 
 /// What a run must meet and this one did not: then the counts say too little.
 pub fn never_met(counts: &Counts) -> Vec<String> {
     let mut never: Vec<String> = Vec::new();
-    let unasked = QUESTIONS.iter().filter(|q| counts.of(Lines, q.name) == 0);
-    never.extend(unasked.map(|question| format!("line of {}", question.name)));
-    for (section, what, names) in MUST {
+    for (section, what, names) in must() {
         let missing = names.iter().filter(|name| counts.of(section, name) == 0);
         never.extend(missing.map(|name| format!("{what} {}", name.trim())));
     }
@@ -62,7 +60,7 @@ mod tests {
 
     #[test]
     fn empty_counts_have_met_nothing() {
-        let asked = CALLS.len() + QUESTIONS.len();
+        let asked = calls().count() + QUESTIONS.len();
         let met = 4 + usize::from(LAST_REFUSAL) + 3 + 2 + 2;
         assert_eq!(never_met(&Counts::default()).len(), asked + met);
     }

@@ -19,10 +19,7 @@ pub use answers::{Ending, Response, Shape, Verdict, MOST_TASKS};
 pub use bench::Bench;
 pub use meaning::{Index, Meaning};
 pub use numbers::grouped;
-pub use questions::{
-    demand, list, load, margin, overload, overload_list, overload_size, read, replay, response, verdict,
-    window, work,
-};
+pub use questions::*;
 pub use raw::{HORIZON, LAST_ARRIVAL, LAST_REFUSAL, LAST_TICK};
 pub use raw::{MOST_LIST_BYTES, MOST_RECORDS, MOST_REQUESTS, MOST_TABLE_BYTES};
 pub use refusal::Refusal;

@@ -1,6 +1,6 @@
 //! Each question asked of the desk, and its answer as a line.
 use crate::lines::{self, unless_refused, Line};
-use crate::question::Question;
+use crate::questions::Question;
 use crate::{records, trace};
 use desk::{Refusal, Response};
 use std::fmt::Display;

@@ -4,7 +4,7 @@ use crate::command::ForPeople;
 use crate::input::Input;
 use crate::lines::Line;
 use crate::output::{complain, shown, Out};
-use crate::question::Question;
+use crate::questions::Question;
 use crate::split::words;
 use crate::status::Status;
 use std::io::{self, BufRead, Read};

@@ -2,7 +2,7 @@
 use crate::arguments::{usage, Arguments, Word};
 use crate::input::Input;
 use crate::output::shown;
-use crate::question::Question;
+use crate::questions::Question;
 use desk::{refusals, Meaning, LAST_REFUSAL};
 
 const NO_COMMAND: &str =

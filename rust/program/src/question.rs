@@ -1,39 +1,12 @@
-//! A question with all that it is asked with, and how it is made of the words of the command line.
+//! How a question is made of the words of the command line.
 use crate::arguments::{usage, Arguments, Word};
 use crate::input::Input;
 use crate::output::shown;
-use crate::questions::QUESTIONS;
+use crate::questions::{List, Question, Table, QUESTIONS};
 use desk::{grouped, LAST_ARRIVAL, MOST_TASKS};
-
-type Table = Vec<u8>;
-type List = Vec<u8>;
-type Task = u64;
-type Frame = u64;
-type T = u64;
-type W = u64;
-type Buflen = u64;
-type Place = u64;
 
 /// The longest buffer that `overload` may be asked for.
 const LONGEST_BUFFER: u64 = 16_777_216;
-
-#[derive(Debug, Clone, PartialEq, Eq)]
-pub enum Question {
-    Read(Table),
-    Verdict(Table),
-    Window(Table),
-    Demand(Table, Task, T),
-    Work(Table, Task, W),
-    Margin(Table, T),
-    Response(Table, Task, Frame),
-    Responses(Table),
-    OverloadSize(Table),
-    Overload(Table, Buflen, Place),
-    OverloadList(Table),
-    List(Table, List),
-    Replay(Table, List),
-    Trace(Table, List),
-}
 
 /// What a question takes, a table always first, and the question that it makes.
 pub enum Form {

@@ -1,6 +1,33 @@
-//! The questions' words: for a call, for a line of a batch, and for help.
+//! The questions, each with all that it is asked with; and their words, for a call, for a line of a batch, and for help.
 use crate::arguments::Word;
-use crate::question::{Form, Question, Words};
+use crate::question::{Form, Words};
+
+pub type Table = Vec<u8>;
+pub type List = Vec<u8>;
+type Task = u64;
+type Frame = u64;
+type T = u64;
+type W = u64;
+type Buflen = u64;
+type Place = u64;
+
+#[derive(Debug, Clone, PartialEq, Eq)]
+pub enum Question {
+    Read(Table),
+    Verdict(Table),
+    Window(Table),
+    Demand(Table, Task, T),
+    Work(Table, Task, W),
+    Margin(Table, T),
+    Response(Table, Task, Frame),
+    Responses(Table),
+    OverloadSize(Table),
+    Overload(Table, Buflen, Place),
+    OverloadList(Table),
+    List(Table, List),
+    Replay(Table, List),
+    Trace(Table, List),
+}
 
 pub static QUESTIONS: [Words; 14] = [
     Words {

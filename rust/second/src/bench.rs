@@ -110,7 +110,7 @@ pub fn replay(table: &[u8], list: &[u8]) -> Result<(End, u32), No> {
 
 /// Ticks a loaded state to its end and shows each state once: that of each tick from 0 to the
 /// end's tick. The stop itself changes neither the tick nor what is left, so it isn't shown.
-pub fn run(mut state: State, mut show: impl FnMut(&State)) -> State {
+pub(crate) fn run(mut state: State, mut show: impl FnMut(&State)) -> State {
     while state.end == End::Running && state.tick <= LAST_TICK {
         show(&state);
         state = tick(state);

@@ -5,7 +5,7 @@ use crate::walk::walk;
 use crate::No;
 
 /// The greatest t or window that may be asked about.
-pub const LAST: u64 = 65_536;
+pub(crate) const LAST: u64 = 65_536;
 
 /// "for one task's demand or work, 9 before 7"
 pub fn demand(table: &[u8], task: u64, t: u64) -> Result<u64, No> {
@@ -41,7 +41,7 @@ fn within(asked: u64) -> Result<(), No> {
 }
 
 /// "The demand is the greatest such sum over all s".
-pub fn task_demand(task: &Task, t: u64) -> u64 {
+pub(crate) fn task_demand(task: &Task, t: u64) -> u64 {
     let mut greatest = 0;
     for start in 0..task.frames.len() {
         greatest = greatest.max(demand_from(task, start, t));
@@ -51,7 +51,7 @@ pub fn task_demand(task: &Task, t: u64) -> u64 {
 
 /// "Add E of every frame whose offset plus D is at most t." "Every frame that fits counts, also
 /// one after a frame that doesn't": so the walk goes on to t, past which no offset plus D fits.
-pub fn demand_from(task: &Task, start: usize, t: u64) -> u64 {
+pub(crate) fn demand_from(task: &Task, start: usize, t: u64) -> u64 {
     let mut sum = 0;
     for arrival in walk(task, start, t) {
         if arrival.offset + arrival.frame.d <= t {
@@ -62,7 +62,7 @@ pub fn demand_from(task: &Task, start: usize, t: u64) -> u64 {
 }
 
 /// "As demand, but add E of frames whose offset is below w; greatest over all s."
-pub fn task_work(task: &Task, w: u64) -> u64 {
+pub(crate) fn task_work(task: &Task, w: u64) -> u64 {
     let mut greatest = 0;
     for start in 0..task.frames.len() {
         let sum = walk(task, start, w).map(|arrival| arrival.frame.e).sum();

@@ -17,14 +17,15 @@ mod verdict;
 mod walk;
 mod words;
 
-pub use bench::{load, replay, tick, End, State};
-pub use demand::{demand, margin, work};
-pub use lines::answer;
-pub use list::list;
-pub use overload::{overload, overload_list, overload_size};
-pub use response::{response, Response};
-pub use table::read;
-pub use verdict::{verdict, window, Verdict};
+// What a file has for others is `pub`; what only this program's files share is not.
+pub use bench::*;
+pub use demand::*;
+pub use lines::*;
+pub use list::*;
+pub use overload::*;
+pub use response::*;
+pub use table::*;
+pub use verdict::*;
 
 /// "Every refusal is a refusal number with the record index".
 pub type No = (u8, usize);

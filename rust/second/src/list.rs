@@ -5,7 +5,7 @@ use crate::No;
 
 /// One request of a list that has been found legal.
 #[derive(Debug, Clone, PartialEq)]
-pub struct Request {
+pub(crate) struct Request {
     pub task: usize,
     pub frame: usize,
     pub arrival: u64,
@@ -18,7 +18,7 @@ pub fn list(table: &[u8], list: &[u8]) -> Result<usize, No> {
 }
 
 /// "for a list, length, then records in order, in each record 10 before 11"
-pub fn parse_list(table: &Table, bytes: &[u8]) -> Result<Vec<Request>, No> {
+pub(crate) fn parse_list(table: &Table, bytes: &[u8]) -> Result<Vec<Request>, No> {
     // 10: "list length not a multiple of 8 or above 1,024 (index 0)"
     let records = bytes.chunks_exact(8);
     if !records.remainder().is_empty() || bytes.len() > 1_024 {

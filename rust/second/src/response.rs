@@ -34,7 +34,7 @@ fn deadlines_within_periods(table: &Table) -> Result<(), No> {
 
 /// The values of the recurrence, "numbered from 0", up to the first that repeats (written
 /// once) or passes D.
-pub fn values(frame: &Frame, higher: &[Task]) -> Vec<u64> {
+pub(crate) fn values(frame: &Frame, higher: &[Task]) -> Vec<u64> {
     let sums = higher_sums(higher, frame.d);
     // "The first value is the frame's E."
     let mut value = frame.e;

@@ -1,11 +1,11 @@
-//! A table read record by record, with refusals 1 to 6 and the search for a task or frame (9).
+//! A table read record by record, with its refusals and the search for a task or frame (9).
 
 use crate::No;
 
 /// One frame: "E is run time, D the deadline from arrival, P the least time to the next
 /// frame's arrival."
 #[derive(Debug, Clone, PartialEq)]
-pub struct Frame {
+pub(crate) struct Frame {
     pub e: u64,
     pub d: u64,
     pub p: u64,
@@ -13,14 +13,14 @@ pub struct Frame {
 
 /// "A task is a run of records with one number".
 #[derive(Debug, Clone, PartialEq)]
-pub struct Task {
+pub(crate) struct Task {
     pub kind: u8,
     pub frames: Vec<Frame>,
 }
 
 /// The tasks of a table in table order; the task number is the place in this vector.
 #[derive(Debug, Clone, PartialEq)]
-pub struct Table {
+pub(crate) struct Table {
     pub tasks: Vec<Task>,
 }
 
@@ -32,7 +32,7 @@ pub fn read(table: &[u8]) -> Result<(usize, usize), No> {
 }
 
 /// "Tables are tested first: length, then records in order, in each record 2, 3, 4, 5, 6."
-pub fn parse(bytes: &[u8]) -> Result<Table, No> {
+pub(crate) fn parse(bytes: &[u8]) -> Result<Table, No> {
     // 1: "table length 0, above 512, or not a multiple of 8"
     let records = bytes.chunks_exact(8);
     if bytes.is_empty() || bytes.len() > 512 || !records.remainder().is_empty() {

@@ -36,7 +36,7 @@ fn closing_window(table: &Table) -> Option<u64> {
     None
 }
 
-pub fn judge(table: &Table) -> Verdict {
+pub(crate) fn judge(table: &Table) -> Verdict {
     // "If some t from 1 to 65,536 has a margin below zero: overloaded, with the least such t,
     // its margin, and sixteen start frames". The last stage has looked at all of them.
     let mut sums = Vec::new();

@@ -3,7 +3,7 @@
 use crate::kinds::{LISTS, TABLES};
 use crate::record::tasks_of;
 use crate::rng::Rng;
-use desk::{MOST_LIST_BYTES, MOST_TABLE_BYTES, MOST_TASKS};
+use desk::{refusals, Index, MOST_LIST_BYTES, MOST_TABLE_BYTES, MOST_TASKS};
 
 const GOOD_TABLES: usize = 13;
 const LEGAL_LISTS: usize = 7;
@@ -77,7 +77,10 @@ fn one_fault_shows_as_each_refusal_of_a_record() {
     let met = |number| {
         (0..500).any(|case| second::read(&one_fault(&mut Rng::new(9, case))).is_err_and(|no| no.0 == number))
     };
-    (2..=6).for_each(|number| assert!(met(number), "refusal {number}"));
+    let of_a_record = refusals::ALL
+        .iter()
+        .filter(|meaning| meaning.index == Index::InTable);
+    of_a_record.for_each(|meaning| assert!(met(meaning.number), "refusal {}", meaning.number));
 }
 
 #[test]

@@ -50,7 +50,10 @@ static inline struct limpidorsa_refusal answered(void)
     return refused(0, 0);
 }
 
-#define REFUSAL(wanted) FIELD(refusal.number, (wanted).number), FIELD(refusal.index, (wanted).index)
+#define REFUSAL(wanted)                                                                      \
+    FIELD(refusal.number, (wanted).number), FIELD(refusal.index, (wanted).index),            \
+        same(at, "refusal.number is one of the header's",                                    \
+             found.refusal.number <= LIMPIDORSA_LAST_REFUSAL, 1)
 
 /* A number that is no answer: how many bytes differ, or how many calls were made. */
 static inline void check_number(struct site at, int64_t found, int64_t wanted)

@@ -16,7 +16,6 @@ static void numbers_of_the_document(void)
     CHECK(number, LIMPIDORSA_MOST_TABLE_BYTES, 512);
     CHECK(number, LIMPIDORSA_MOST_REQUESTS, 128);
     CHECK(number, LIMPIDORSA_MOST_LIST_BYTES, 1024);
-    CHECK(number, LIMPIDORSA_LAST_REFUSAL, 13);
 }
 
 /* (1,1,1) asks for one unit at every tick. */
@@ -75,5 +74,4 @@ void limits(void)
     most_records();
     most_requests();
     last_arrival_and_last_tick();
-    CHECK(written, limpidorsa_overload_size(BYTES(ONE)), refused(LIMPIDORSA_LAST_REFUSAL, 0), 0);
 }

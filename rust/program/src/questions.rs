@@ -1,4 +1,5 @@
-//! The questions, each with all that it is asked with; and their words, for a call, for a line of a batch, and for help.
+//! The questions, each with all that it is asked with; and their words, for a call, for a line of a batch,
+//! and for help.
 use crate::arguments::Word;
 use crate::question::{Form, Words};
 

@@ -6,7 +6,10 @@ use crate::answers::NONE;
 use crate::ticks::flat_bench;
 use requests::list_reader::Checked;
 use table::reader::Reading;
+use table::reader::Shape;
 ghost use mathlib.Core.Path.{_≡_};
+ghost use Rattle.table.specs.TableReader.{reading-of};
+ghost use Rattle.table.specs.declared.reader.Reading.the-variants.{Table};
 ghost use Rattle.desk.specs.ListQuestions.{list-asked, load-asked, replay-asked};
 ghost use Rattle.desk.specs.FlatList.{flat-listed, flat-ending};
 ghost use Rattle.desk.specs.FlatBench.{flat-loaded};
@@ -38,19 +41,11 @@ pub extern "C" fn limpidorsa_list<'a, 'b>(table: &'a [u8], list: &'b [u8]) -> Li
     }
 }
 
-// The bench loaded with a request list, before tick 0. Refuses with 10 or 11; the bench then has nothing to do.
-#[no_mangle]
-pub extern "C" fn limpidorsa_load<'a, 'b>(table: &'a [u8], list: &'b [u8]) -> Loaded
+// Of a table that was read.
+fn load_in<'a, 'b>(table: &'a [u8], shape: Shape, list: &'b [u8]) -> Loaded
+    requires { ⌜ reading-of (now table) ≡ Table shape ⌝ }
     ensures { λ r. ⌜ r ≡ flat-loaded (load-asked (now (table .entry)) (now (list .entry))) ⌝ }
 {
-    let reading = table::reader::read_table(table);
-    let Reading::Table(shape) = reading else {
-        return Loaded {
-            refusal: table::reader::refusal_of(reading),
-            records: 0,
-            state: flat_bench(bench::load::empty()),
-        };
-    };
     let plan = table::plan::make_plan(table, shape.records, shape.tasks);
     let checked = requests::list_reader::check_list(table, plan, list);
     let Checked::Legal(records) = checked else {
@@ -65,6 +60,22 @@ pub extern "C" fn limpidorsa_load<'a, 'b>(table: &'a [u8], list: &'b [u8]) -> Lo
         records,
         state: flat_bench(bench::load::load(table, plan, list, records)),
     }
+}
+
+// The bench loaded with a request list, before tick 0. Refuses with 10 or 11; the bench then has nothing to do.
+#[no_mangle]
+pub extern "C" fn limpidorsa_load<'a, 'b>(table: &'a [u8], list: &'b [u8]) -> Loaded
+    ensures { λ r. ⌜ r ≡ flat-loaded (load-asked (now (table .entry)) (now (list .entry))) ⌝ }
+{
+    let reading = table::reader::read_table(table);
+    let Reading::Table(shape) = reading else {
+        return Loaded {
+            refusal: table::reader::refusal_of(reading),
+            records: 0,
+            state: flat_bench(bench::load::empty()),
+        };
+    };
+    load_in(table, shape, list)
 }
 
 fn lay_ending(x: bench::replay::Replayed) -> Ending
@@ -86,6 +97,25 @@ fn lay_ending(x: bench::replay::Replayed) -> Ending
     }
 }
 
+// Of a table that was read.
+fn replay_in<'a, 'b>(table: &'a [u8], shape: Shape, list: &'b [u8]) -> Ending
+    requires { ⌜ reading-of (now table) ≡ Table shape ⌝ }
+    ensures { λ r. ⌜ r ≡ flat-ending (replay-asked (now (table .entry)) (now (list .entry))) ⌝ }
+{
+    let plan = table::plan::make_plan(table, shape.records, shape.tasks);
+    let checked = requests::list_reader::check_list(table, plan, list);
+    let Checked::Legal(n) = checked else {
+        return Ending {
+            refusal: requests::list_reader::refusal_of(checked),
+            missed: false,
+            tick: 0,
+            index: 0,
+        };
+    };
+    let start = bench::load::load(table, plan, list, n);
+    lay_ending(bench::replay::finish(start))
+}
+
 // The replay of a request list by the earliest-deadline bench. Refuses with 10 or 11.
 #[no_mangle]
 pub extern "C" fn limpidorsa_replay<'a, 'b>(table: &'a [u8], list: &'b [u8]) -> Ending
@@ -100,16 +130,5 @@ pub extern "C" fn limpidorsa_replay<'a, 'b>(table: &'a [u8], list: &'b [u8]) -> 
             index: 0,
         };
     };
-    let plan = table::plan::make_plan(table, shape.records, shape.tasks);
-    let checked = requests::list_reader::check_list(table, plan, list);
-    let Checked::Legal(n) = checked else {
-        return Ending {
-            refusal: requests::list_reader::refusal_of(checked),
-            missed: false,
-            tick: 0,
-            index: 0,
-        };
-    };
-    let start = bench::load::load(table, plan, list, n);
-    lay_ending(bench::replay::finish(start))
+    replay_in(table, shape, list)
 }

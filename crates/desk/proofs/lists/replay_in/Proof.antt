@@ -46,7 +46,8 @@ returns-2 c =
     c .lay-ending .ensures
     ∙ ap laid-ending (c .before .finish .ensures ∙ ap (λ b. replayed-of (end-of b)) (loaded .load .ensures))
     ∙ ending-laid _
-    ∙ ap flat-ending (list-answered _ _ _ (start .pre) (at-check .check-list .ensures) (told .checked .given .1) replays)
+    ∙ ap flat-ending
+    (list-answered _ _ _ (start .pre) (at-check .check-list .ensures) (told .checked .given .1) replays)
 
 pub replay-in-spec : {M : Type 1} → statement M
 replay-in-spec =

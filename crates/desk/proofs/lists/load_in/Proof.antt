@@ -21,7 +21,8 @@ returns c =
     let taken = c .before .before in
     let told = taken .before in
     let at-check = told .before .before in
-    let start = at-check .before .before .before .before in
+    let at-plan = at-check .before in
+    let start = at-plan .before .before .before in
     load-refused (c .flat-bench .ensures ∙ ap flat-bench (c .before .empty .ensures))
     (list-refused _ _ _ (start .pre) (at-check .check-list .ensures) loads (told .enum-told .given .1)
     (taken .refusal-of .ensures))
@@ -30,8 +31,9 @@ load-requires : tie.Need-load-requires
 load-requires c κs =
     let told = c .before in
     let at-check = told .before .before in
-    let start = at-check .before .before .before .before in (
-      ready-read _ _ (start .pre) (at-check .before .make-plan .ensures),
+    let at-plan = at-check .before in
+    let start = at-plan .before .before .before in (
+      ready-read _ _ (start .pre) (at-plan .make-plan .ensures),
       list-listed _ _ _ (start .pre) (at-check .check-list .ensures) (told .checked .given .1),
     )
 
@@ -40,7 +42,8 @@ unfolding load-asked
 returns-2 c =
     let told = c .before .before .before in
     let at-check = told .before .before in
-    let start = at-check .before .before .before .before in
+    let at-plan = at-check .before in
+    let start = at-plan .before .before .before in
     let checked = at-check .check-list .ensures in
     load-answered (list-count _ _ _ (start .pre) checked (told .checked .given .1))
     (c .flat-bench2 .ensures ∙ ap flat-bench (c .before .load .ensures))

@@ -23,7 +23,8 @@ unfolding replay-asked flat-ending
 returns c =
     let told = c .before in
     let at-check = told .before .before in
-    let start = at-check .before .before .before .before in
+    let at-plan = at-check .before in
+    let start = at-plan .before .before .before in
     ap flat-ending
     (list-refused _ _ _ (start .pre) (at-check .check-list .ensures) replays (told .enum-told .given .1)
     (c .refusal-of .ensures))
@@ -31,8 +32,9 @@ returns c =
 load-requires : tie.Need-load-requires
 load-requires c κs =
     let at-check = c .before .before .before in
-    let start = at-check .before .before .before .before in (
-      ready-read _ _ (start .pre) (at-check .before .make-plan .ensures),
+    let at-plan = at-check .before in
+    let start = at-plan .before .before .before in (
+      ready-read _ _ (start .pre) (at-plan .make-plan .ensures),
       list-listed _ _ _ (start .pre) (at-check .check-list .ensures) (c .before .checked .given .1),
     )
 
@@ -42,7 +44,8 @@ returns-2 c =
     let loaded = c .before .before in
     let told = loaded .before .before in
     let at-check = told .before .before in
-    let start = at-check .before .before .before .before in
+    let at-plan = at-check .before in
+    let start = at-plan .before .before .before in
     c .lay-ending .ensures
     ∙ ap laid-ending (c .before .finish .ensures ∙ ap (λ b. replayed-of (end-of b)) (loaded .load .ensures))
     ∙ ending-laid _

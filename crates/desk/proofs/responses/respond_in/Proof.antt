@@ -56,10 +56,11 @@ respond-requires c κs =
 
 returns-3 : tie.Need-returns-3
 returns-3 c =
-    let found = c .before .before .before .before in
+    let asked-for = c .before in
+    let found = asked-for .before .before .before in
     let is-there = found .before in
     let entry = asked (is-there .before) in
-    c .lay-response .ensures ∙ ap laid-response (c .before .respond .ensures .is) ∙ response-laid _
+    c .lay-response .ensures ∙ ap laid-response (asked-for .respond .ensures .is) ∙ response-laid _
     ∙ ap flat-response (response-answered _ _ (entry .pre) (entry .args .task) (entry .args .frame)
     (is-there .before .is-missing .ensures) (is-there .if1 .left) (found .first-above .ensures) (search needs))
 

@@ -30,7 +30,7 @@ holds-stopped holds =
       tick = holds .tick;
       left = holds .left;
       past = holds .past;
-      kept = record { due = holds .kept .due; arrive = holds .kept .arrive; task = holds .kept .task };
+      kept = record { due = holds .kept .due; arrive = holds .kept .arrive; release = holds .kept .release; task = holds .kept .task };
     }
 
 module _ (jobs : Jobs) (fits : jobs .count ≤ most-requests) where
@@ -42,7 +42,7 @@ module _ (jobs : Jobs) (fits : jobs .count ≤ most-requests) where
         tick = refl;
         left = λ k inside. slots-at (jobs .count) (jobs .amount) fits k inside ∙ sym (left-start jobs (sooner jobs) k);
         past = slots-past (jobs .count) (jobs .amount);
-        kept = record { due = refl; arrive = refl; task = refl };
+        kept = record { due = refl; arrive = refl; release = refl; task = refl };
       }
 
   module _ (t : ℕ) (b : Bench) (holds : Holds jobs t b) where
@@ -53,6 +53,10 @@ module _ (jobs : Jobs) (fits : jobs .count ≤ most-requests) where
     arrive-at : (k : ℕ) → k < jobs .count → getD (b .arrive) k 0 ≡ jobs .arrive k
     unfolding loaded
     arrive-at = slots-read (jobs .count) (jobs .arrive) (holds .kept .arrive) fits
+
+    release-at : (k : ℕ) → k < jobs .count → getD (b .release) k 0 ≡ jobs .release k
+    unfolding loaded
+    release-at = slots-read (jobs .count) (jobs .release) (holds .kept .release) fits
 
     task-at : (k : ℕ) → k < jobs .count → getD (b .task) k 0 ≡ jobs .task k
     unfolding loaded
@@ -90,6 +94,7 @@ module _ (jobs : Jobs) (fits : jobs .count ≤ most-requests) where
           fits = fits;
           task = task-at;
           arrive = arrive-at;
+          release = release-at;
           due = due-at;
           left-is = holds .left;
           idle = holds .past;
@@ -119,5 +124,5 @@ module _ (jobs : Jobs) (fits : jobs .count ≤ most-requests) where
           tick = add-one (b .tick) ∙ ap suc (holds .tick);
           left = moved-left;
           past = moved-past;
-          kept = record { due = holds .kept .due; arrive = holds .kept .arrive; task = holds .kept .task };
+          kept = record { due = holds .kept .due; arrive = holds .kept .arrive; release = holds .kept .release; task = holds .kept .task };
         }

@@ -58,17 +58,18 @@ slots-turn f i {v} room is =
 
 -- ---- the four arrays
 
-pub record Loading (s list : List ℕ) (n i : ℕ) (left due arrive task : List ℕ) : Type 0 where
+pub record Loading (s list : List ℕ) (n i : ℕ) (left due arrive release task : List ℕ) : Type 0 where
   pub within : i ≤ n
   pub few : n ≤ most-requests
   pub listed : Listed (table-of s) list n
   pub left-is : left ≡ slots-of i (jobs-of (table-of s) (list-of list) .amount)
   pub due-is : due ≡ slots-of i (jobs-of (table-of s) (list-of list) .due)
   pub arrive-is : arrive ≡ slots-of i (jobs-of (table-of s) (list-of list) .arrive)
+  pub release-is : release ≡ slots-of i (jobs-of (table-of s) (list-of list) .release)
   pub task-is : task ≡ slots-of i (jobs-of (table-of s) (list-of list) .task)
 
 pub loading-start : {s list : List ℕ} {n : ℕ} → Listed (table-of s) list n
-    → let none : List ℕ = replicate most-requests 0 in Loading s list n 0 none none none none
+    → let none : List ℕ = replicate most-requests 0 in Loading s list n 0 none none none none none
 loading-start {s} {list} listed =
     let jobs = jobs-of (table-of s) (list-of list) in
     record {
@@ -78,11 +79,12 @@ loading-start {s} {list} listed =
       left-is = slots-none (jobs .amount);
       due-is = slots-none (jobs .due);
       arrive-is = slots-none (jobs .arrive);
+      release-is = slots-none (jobs .release);
       task-is = slots-none (jobs .task);
     }
 
-module _ {s list : List ℕ} {n i : ℕ} {left due arrive task : List ℕ}
-    (so-far : Loading s list n i left due arrive task) where
+module _ {s list : List ℕ} {n i : ℕ} {left due arrive release task : List ℕ}
+    (so-far : Loading s list n i left due arrive release task) where
   module _ (more : i < n) where
     here : i < records list
     here = omega (arith, so-far .listed .count-is)
@@ -96,7 +98,7 @@ module _ {s list : List ℕ} {n i : ℕ} {left due arrive task : List ℕ}
 
       pub loading-turn : {slot : Slot} → Slot-is (table-of s) x slot
           → Loading s list n (i + 1) (set left i (slot .left)) (set due i (slot .due)) (set arrive i (slot .arrive))
-          (set task i (slot .task))
+          (set release i (slot .release)) (set task i (slot .task))
       loading-turn {slot} is =
           let jobs = jobs-of (table-of s) (list-of list) in
           let room : i < most-requests = omega (arith, so-far .few) in
@@ -108,22 +110,23 @@ module _ {s list : List ℕ} {n i : ℕ} {left due arrive task : List ℕ}
             left-is = rw (so-far .left-is) (slots-turn (jobs .amount) i room (same .left-is));
             due-is = rw (so-far .due-is) (slots-turn (jobs .due) i room (same .due-is));
             arrive-is = rw (so-far .arrive-is) (slots-turn (jobs .arrive) i room (same .arrive-is));
+            release-is = rw (so-far .release-is) (slots-turn (jobs .release) i room (same .release-is));
             task-is = rw (so-far .task-is) (slots-turn (jobs .task) i room (same .task-is));
           }
 
   pub loading-done : n ≤ i
-      → record { tick = 0; left = left; due = due; arrive = arrive; task = task; outcome = Running }
+      → record { tick = 0; left = left; due = due; arrive = arrive; release = release; task = task; outcome = Running }
       ≡ loaded (jobs-of (table-of s) (list-of list))
   unfolding loaded
   loading-done done =
       let all : i ≡ list-of list .count = omega (arith, so-far .within, so-far .listed .count-is) in
-      rw (so-far .left-is, so-far .due-is, so-far .arrive-is, so-far .task-is, all)
+      rw (so-far .left-is, so-far .due-is, so-far .arrive-is, so-far .release-is, so-far .task-is, all)
 
 -- nothing to load
 abbrev zeros : List ℕ
 zeros = replicate most-requests 0
 
 pub loaded-none :
-    record { tick = 0; left = zeros; due = zeros; arrive = zeros; task = zeros; outcome = Running } ≡ loaded no-jobs
+    record { tick = 0; left = zeros; due = zeros; arrive = zeros; release = zeros; task = zeros; outcome = Running } ≡ loaded no-jobs
 unfolding loaded
 loaded-none = rw (sym (slots-none (no-jobs .amount)))

@@ -59,10 +59,10 @@ stands b next (meets going none done) still = absurd (still going)
 stands b next (moves going none some unit) still = absurd (still going)
 
 keeps : (b next : Bench) → Ticked b next → Kept b next
-keeps b next (stays over) = record { due = refl; arrive = refl; task = refl }
-keeps b next (stops i going misses) = record { due = refl; arrive = refl; task = refl }
-keeps b next (meets going none done) = record { due = refl; arrive = refl; task = refl }
-keeps b next (moves going none some unit) = record { due = refl; arrive = refl; task = refl }
+keeps b next (stays over) = record { due = refl; arrive = refl; release = refl; task = refl }
+keeps b next (stops i going misses) = record { due = refl; arrive = refl; release = refl; task = refl }
+keeps b next (meets going none done) = record { due = refl; arrive = refl; release = refl; task = refl }
+keeps b next (moves going none some unit) = record { due = refl; arrive = refl; release = refl; task = refl }
 
 spends : (b next : Bench) → Ticked b next → (k : ℕ) → (left-in next k ≡ left-in b k → ⊥) → Spends b next k
 spends b next (stays over) k changed = absurd (changed refl)

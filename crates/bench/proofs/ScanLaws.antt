@@ -24,7 +24,7 @@ module _ (b : Bench) where
   left-place = place-or most-requests (least-from (has-left (b .left)) most-requests 0)
 
   abbrev next-place : ℕ
-  next-place = place-or most-requests (next-of (slot-jobs (b .left) (b .due) (b .arrive) (b .task)) (b .tick))
+  next-place = place-or most-requests (next-of (slot-jobs (b .left) (b .due) (b .arrive) (b .release) (b .task)) (b .tick))
 
   pub late-found : (i : ℕ) → i ≡ late-place → i < most-requests → first-late b ≡ at i
   unfolding first-late
@@ -57,5 +57,5 @@ module _ (b : Bench) where
       undone : 0 < getD (b .left) i 0
       undone =
           ltb-true _ _
-          (and-true-right (leb (getD (b .arrive) i 0) (b .tick)) _
+          (and-true-right (leb (getD (b .release) i 0) (b .tick)) _
           (pick-passes _ _ most-requests i (place-at _ most-requests i answer below)))

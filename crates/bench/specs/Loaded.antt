@@ -28,19 +28,21 @@ loaded jobs =
       left = slots-of (jobs .count) (jobs .amount);
       due = slots-of (jobs .count) (jobs .due);
       arrive = slots-of (jobs .count) (jobs .arrive);
+      release = slots-of (jobs .count) (jobs .release);
       task = slots-of (jobs .count) (jobs .task);
       outcome = Running;
     }
 
 -- nothing to do
 abbrev pub no-jobs : Jobs
-no-jobs = record { count = 0; task = λ k. 0; arrive = λ k. 0; due = λ k. 0; amount = λ k. 0 }
+no-jobs = record { count = 0; task = λ k. 0; arrive = λ k. 0; release = λ k. 0; due = λ k. 0; amount = λ k. 0 }
 
--- what request x puts into its slot: the amount, deadline, arrival and task of its job
+-- what request x puts into its slot: the amount, deadline, arrival, release and task of its job
 pub record Slot-is (table : Table) (x : Entry) (r : Slot) : Type 0 where
   pub left-is : r .left ≡ table .task (x .task) .E (x .frame)
   pub due-is : r .due ≡ x .arrival + table .task (x .task) .D (x .frame)
   pub arrive-is : r .arrive ≡ x .arrival
+  pub release-is : r .release ≡ x .arrival
   pub task-is : r .task ≡ x .task
 
 -- "All runs end by tick 131,070": a state at that tick is still taken

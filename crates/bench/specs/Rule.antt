@@ -15,18 +15,19 @@ use Rattle.bench.specs.declared.state.Outcome.{Outcome}
 use Rattle.bench.specs.declared.state.Outcome.the-variants.{Running, Missed, AllMet}
 
 -- "The bench keeps 128 amounts left": the slots as jobs, with what each has left
-abbrev pub slot-jobs : (left due arrive task : List ℕ) → Jobs
-slot-jobs left due arrive task =
+abbrev pub slot-jobs : (left due arrive release task : List ℕ) → Jobs
+slot-jobs left due arrive release task =
     record {
       count = most-requests;
       task = λ k. getD task k 0;
       arrive = λ k. getD arrive k 0;
+      release = λ k. getD release k 0;
       due = λ k. getD due k 0;
       amount = λ k. getD left k 0;
     }
 
 abbrev pub jobs-in : Bench → Jobs
-jobs-in b = slot-jobs (b .left) (b .due) (b .arrive) (b .task)
+jobs-in b = slot-jobs (b .left) (b .due) (b .arrive) (b .release) (b .task)
 
 abbrev pub has-left : List ℕ → ℕ → Bool
 has-left left k = ltb 0 (getD left k 0)
@@ -51,7 +52,15 @@ next-in b = next-of (jobs-in b) (b .tick)
 -- the state with another outcome
 abbrev pub with-outcome : Bench → Outcome → Bench
 with-outcome b outcome =
-    record { tick = b .tick; left = b .left; due = b .due; arrive = b .arrive; task = b .task; outcome = outcome }
+    record {
+      tick = b .tick;
+      left = b .left;
+      due = b .due;
+      arrive = b .arrive;
+      release = b .release;
+      task = b .task;
+      outcome = outcome;
+    }
 
 -- the state one tick on, with these amounts left
 abbrev pub moved-on : Bench → List ℕ → Bench
@@ -61,6 +70,7 @@ moved-on b left =
       left = left;
       due = b .due;
       arrive = b .arrive;
+      release = b .release;
       task = b .task;
       outcome = b .outcome;
     }

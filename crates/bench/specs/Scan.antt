@@ -12,9 +12,9 @@ use Rattle.requests.specs.Entry.{most-requests}
 use Rattle.bench.specs.declared.state.Bench.{Bench}
 use Rattle.bench.specs.Rule.{slot-jobs}
 
--- the order of two slots, which what they have left does not touch
+-- the order of two slots, which neither what they have left nor their release touches
 abbrev pub goes-before : (due arrive task : List ℕ) → Order
-goes-before due arrive task = sooner (slot-jobs [] due arrive task)
+goes-before due arrive task = sooner (slot-jobs [] due arrive [] task)
 
 -- the slots below i were tried at tick t, and the first of them in the order is `best`, or `most-requests` for none
 pub record Tried (jobs : Jobs) (t i best : ℕ) : Type 0 where

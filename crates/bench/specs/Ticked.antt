@@ -56,4 +56,5 @@ Spends b next k = Gives (jobs-in b) (sooner (jobs-in b)) (b .tick) (left-in b) (
 pub record Kept (b next : Bench) : Type 0 where
   pub due : next .due ≡ b .due
   pub arrive : next .arrive ≡ b .arrive
+  pub release : next .release ≡ b .release
   pub task : next .task ≡ b .task

@@ -22,6 +22,7 @@ pub fn empty() -> Bench
         left: [0; MOST_REQUESTS],
         due: [0; MOST_REQUESTS],
         arrive: [0; MOST_REQUESTS],
+        release: [0; MOST_REQUESTS],
         task: [0; MOST_REQUESTS],
         outcome: Outcome::Running,
     }
@@ -32,6 +33,7 @@ struct Slot {
     left: u32,
     due: u32,
     arrive: u32,
+    release: u32,
     task: u8,
 }
 
@@ -45,6 +47,7 @@ fn slot_of(s: &[u8], plan: Plan, x: Entry) -> Slot
         left: frame.e as u32,
         due: x.arrival + frame.d as u32,
         arrive: x.arrival,
+        release: x.arrival,
         task: x.task,
     }
 }
@@ -57,6 +60,7 @@ pub fn load<'a, 'b>(s: &'a [u8], plan: Plan, list: &'b [u8], n: usize) -> Bench
     let mut left = [0u32; MOST_REQUESTS];
     let mut due = [0u32; MOST_REQUESTS];
     let mut arrive = [0u32; MOST_REQUESTS];
+    let mut release = [0u32; MOST_REQUESTS];
     let mut task = [0u8; MOST_REQUESTS];
     let mut i: usize = 0;
     while i < n {
@@ -65,6 +69,7 @@ pub fn load<'a, 'b>(s: &'a [u8], plan: Plan, list: &'b [u8], n: usize) -> Bench
         left[i] = slot.left;
         due[i] = slot.due;
         arrive[i] = slot.arrive;
+        release[i] = slot.release;
         task[i] = slot.task;
         i += 1;
     }
@@ -73,6 +78,7 @@ pub fn load<'a, 'b>(s: &'a [u8], plan: Plan, list: &'b [u8], n: usize) -> Bench
         left,
         due,
         arrive,
+        release,
         task,
         outcome: Outcome::Running,
     }

@@ -28,17 +28,23 @@ fn better<'a>(
     left: &'a [u32; MOST_REQUESTS],
     due: &'a [u32; MOST_REQUESTS],
     arrive: &'a [u32; MOST_REQUESTS],
+    release: &'a [u32; MOST_REQUESTS],
     task: &'a [u8; MOST_REQUESTS],
     t: u32,
     best: usize,
     i: usize,
 ) -> usize
-    requires { ⌜ (i < most-requests) × Tried (slot-jobs (now left) (now due) (now arrive) (now task)) t i best ⌝ }
+    requires { ⌜
+        (i < most-requests)
+        × Tried (slot-jobs (now left) (now due) (now arrive) (now release) (now task)) t i best
+        ⌝ }
     ensures { λ r. ⌜
-        Tried (slot-jobs (now (left .entry)) (now (due .entry)) (now (arrive .entry)) (now (task .entry))) t (i + 1) r
+        Tried
+        (slot-jobs (now (left .entry)) (now (due .entry)) (now (arrive .entry)) (now (release .entry))
+        (now (task .entry))) t (i + 1) r
         ⌝ }
 {
-    let ready = (arrive[i] <= t) & (0 < left[i]);
+    let ready = (release[i] <= t) & (0 < left[i]);
     if !ready {
         return best;
     }
@@ -56,18 +62,21 @@ pub fn next_of<'a>(
     left: &'a [u32; MOST_REQUESTS],
     due: &'a [u32; MOST_REQUESTS],
     arrive: &'a [u32; MOST_REQUESTS],
+    release: &'a [u32; MOST_REQUESTS],
     task: &'a [u8; MOST_REQUESTS],
     t: u32,
 ) -> usize
     ensures { λ r. ⌜
         r ≡ place-or most-requests
-        (next-of (slot-jobs (now (left .entry)) (now (due .entry)) (now (arrive .entry)) (now (task .entry))) t)
+        (next-of
+        (slot-jobs (now (left .entry)) (now (due .entry)) (now (arrive .entry)) (now (release .entry))
+        (now (task .entry))) t)
         ⌝ }
 {
     let mut best = MOST_REQUESTS;
     let mut i: usize = 0;
     while i < MOST_REQUESTS {
-        best = better(left, due, arrive, task, t, best, i);
+        best = better(left, due, arrive, release, task, t, best, i);
         i += 1;
     }
     best

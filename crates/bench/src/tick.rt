@@ -20,12 +20,14 @@ impl Bench {
         let left = self.left;
         let due = self.due;
         let arrive = self.arrive;
+        let release = self.release;
         let task = self.task;
         Bench {
             tick: self.tick,
             left,
             due,
             arrive,
+            release,
             task,
             outcome,
         }
@@ -61,7 +63,14 @@ impl Bench {
         if MOST_REQUESTS <= first_left(&self.left) {
             return self.stop(Outcome::AllMet);
         }
-        let next = next_of(&self.left, &self.due, &self.arrive, &self.task, t);
+        let next = next_of(
+            &self.left,
+            &self.due,
+            &self.arrive,
+            &self.release,
+            &self.task,
+            t,
+        );
         if MOST_REQUESTS <= next {
             self.tick = t + 1;
             return self;

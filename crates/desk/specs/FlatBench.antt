@@ -35,6 +35,7 @@ flat-bench b =
       left = b .left;
       due = b .due;
       arrive = b .arrive;
+      release = b .release;
       task = b .task;
     }
 
@@ -47,7 +48,15 @@ flat-loaded (refused number index) =
 -- the bench of a state that has not stopped
 abbrev pub running : State → Bench
 running s =
-    record { tick = s .tick; left = s .left; due = s .due; arrive = s .arrive; task = s .task; outcome = Running }
+    record {
+      tick = s .tick;
+      left = s .left;
+      due = s .due;
+      arrive = s .arrive;
+      release = s .release;
+      task = s .task;
+      outcome = Running;
+    }
 
 -- "A stopped bench .. comes back from a tick unchanged", and every outcome but 0 is a bench that has stopped; "and so
 -- does a state past that last tick". Else "Each tick takes a bench state and hands back the next"

@@ -37,6 +37,7 @@ pub fn flat_bench(b: Bench) -> State
     let left = b.left;
     let due = b.due;
     let arrive = b.arrive;
+    let release = b.release;
     let task = b.task;
     State {
         tick: b.tick,
@@ -45,6 +46,7 @@ pub fn flat_bench(b: Bench) -> State
         left,
         due,
         arrive,
+        release,
         task,
     }
 }
@@ -56,12 +58,14 @@ fn running(s: State) -> Bench
     let left = s.left;
     let due = s.due;
     let arrive = s.arrive;
+    let release = s.release;
     let task = s.task;
     Bench {
         tick: s.tick,
         left,
         due,
         arrive,
+        release,
         task,
         outcome: Outcome::Running,
     }

@@ -20,16 +20,16 @@ use Rattle.model.proofs.ServiceLaws.{service-falls, service-takes}
 use Rattle.model.proofs.OpenLaws.{rest, open-some, open-start, came-split, rest-split}
 
 module _ {jobs : Jobs} (service : Service jobs) (class : Class) where
-  -- a job of the class that arrived before t and is not done makes open work
-  pub open-has : (t k : ℕ) → k < jobs .count → class k ≡ true → jobs .arrive k < t → 0 < service .left t k
+  -- a job of the class that was released before t and is not done makes open work
+  pub open-has : (t k : ℕ) → k < jobs .count → class k ≡ true → jobs .release k < t → 0 < service .left t k
       → 0 < open-work service class t
   unfolding open-work
-  open-has t k inside in-class arrived undone =
-      let before = lt-ltb (jobs .arrive k) t arrived in
+  open-has t k inside in-class released undone =
+      let before = lt-ltb (jobs .release k) t released in
       omega (
         arith,
-        sum-has (jobs .count) (λ i. only (class i && ltb (jobs .arrive i) t) (service .left t i)) k inside,
-        only-passed (class k && ltb (jobs .arrive k) t) (service .left t k) (rw (in-class, before)),
+        sum-has (jobs .count) (λ i. only (class i && ltb (jobs .release i) t) (service .left t i)) k inside,
+        only-passed (class k && ltb (jobs .release k) t) (service .left t k) (rw (in-class, before)),
       )
 
   -- of a class that is clear at q and open at x, and lost a unit a tick, more came in between than there were ticks
@@ -48,7 +48,7 @@ module _ {jobs : Jobs} (service : Service jobs) (class : Class) where
         let served = prefers t (waits .job) inside (waits .in-class)
         (record {
           inside = waits .inside;
-          arrived = omega (arith, waits .arrived);
+          released = omega (arith, waits .released);
           undone = omega (arith, waits .undone);
         }) in
         let known = service .ready t (served .job) (served .is) .inside in

@@ -1,5 +1,5 @@
 -- Small jobs that meet what the laws about jobs ask: B's list, of which too much is due by 2, and one job of K6's
--- table, which passes with window 1. Jobs are written (arrive, due, amount).
+-- table, which passes with window 1. Jobs are written (release, due, amount).
 -- Assumes nothing.
 use mathlib.Core.Bool.{_&&_}
 use mathlib.Core.Path.{_≡_, refl}
@@ -20,7 +20,7 @@ use Rattle.model.proofs.EarliestLaws.{sooner-done}
 -- ---- B's list: (0,2,2) of task 0 and (0,2,1) of task 1
 
 abbrev pub two-jobs : Jobs
-two-jobs = record { count = 2; task = λ k. k; arrive = λ k. 0; due = λ k. 2; amount = λ k. 2 - k }
+two-jobs = record { count = 2; task = λ k. k; arrive = λ k. 0; release = λ k. 0; due = λ k. 2; amount = λ k. 2 - k }
 
 abbrev pub two-run : Service two-jobs
 two-run = machine two-jobs (sooner two-jobs) (sooner-strict two-jobs)
@@ -61,7 +61,7 @@ too-many =
 -- ---- K6's table: (0,1,1)
 
 abbrev pub one-job : Jobs
-one-job = record { count = 1; task = λ k. 0; arrive = λ k. 0; due = λ k. 1; amount = λ k. 1 }
+one-job = record { count = 1; task = λ k. 0; arrive = λ k. 0; release = λ k. 0; due = λ k. 1; amount = λ k. 1 }
 
 pub one-passes : Passes one-job 1
 unfolding came due-within

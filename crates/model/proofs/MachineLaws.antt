@@ -1,4 +1,4 @@
--- The machine tick by tick: at most one unit a tick, and only to an arrived, unfinished job that none such precedes.
+-- The machine tick by tick: at most one unit a tick, and only to a released, unfinished job that none such precedes.
 -- Assumes nothing.
 use mathlib.Core.Path.{_≡_, refl, sym, _∙_}
 use mathlib.Core.Bool.{true, false≢true}
@@ -20,16 +20,16 @@ use Rattle.model.proofs.PickRight.{Picked, pick-right}
 module _ (jobs : Jobs) (t : ℕ) (left : ℕ → ℕ) where
   pub ready-is : (k : ℕ) → k < jobs .count → ready jobs t left k ≡ true → Pending jobs t left k
   ready-is k inside passes =
-      let arrived = leb (jobs .arrive k) t in
+      let released = leb (jobs .release k) t in
       let undone = ltb 0 (left k) in
       record {
         inside = inside;
-        arrived = leb-true _ _ (and-true-left arrived undone passes);
-        undone = ltb-true _ _ (and-true-right arrived undone passes);
+        released = leb-true _ _ (and-true-left released undone passes);
+        undone = ltb-true _ _ (and-true-right released undone passes);
       }
 
   pub is-ready : (k : ℕ) → Pending jobs t left k → ready jobs t left k ≡ true
-  is-ready k r = rw (le-leb _ _ (r .arrived), lt-ltb _ _ (r .undone))
+  is-ready k r = rw (le-leb _ _ (r .released), lt-ltb _ _ (r .undone))
 
 -- one unit less at b, and nowhere else
 module _ (left : ℕ → ℕ) where

@@ -18,7 +18,7 @@ use Rattle.model.specs.Jobs.{Jobs}
 use Rattle.model.specs.Service.{Service, Class, came, open-work}
 use Rattle.model.proofs.ServiceLaws.{whole}
 
--- what arrives from q on arrives before x, or from x on
+-- what is released from q on is released before x, or from x on
 came-one : (in-class : Bool) (q x a amount : ℕ) → q ≤ x
     → only (in-class && leb q a) amount
     ≡ only (in-class && (leb q a && ltb a x)) amount + only (in-class && leb x a) amount
@@ -29,7 +29,7 @@ came-one true q x a amount later =
       | inr after ↦ simp (le-leb q a (omega arith), le-ltb a x after, le-leb x a after) (omega arith)
     ]
 
--- what a job has left is open, or the job has not arrived and is whole
+-- what a job has left is open, or the job is not released and is whole
 left-one : (in-class : Bool) (t a left amount : ℕ) → (t ≤ a → left ≡ amount)
     → only in-class left ≡ only (in-class && ltb a t) left + only (in-class && leb t a) amount
 left-one false t a left amount untouched = refl
@@ -40,9 +40,9 @@ left-one true t a left amount untouched =
     ]
 
 module _ {jobs : Jobs} (service : Service jobs) (class : Class) where
-  -- the work of the class that arrives at x or later
+  -- the work of the class that is released at x or later
   abbrev pub later : ℕ → ℕ
-  later x = sum (jobs .count) (λ k. only (class k && leb x (jobs .arrive k)) (jobs .amount k))
+  later x = sum (jobs .count) (λ k. only (class k && leb x (jobs .release k)) (jobs .amount k))
 
   -- what is left of the class
   abbrev pub rest : ℕ → ℕ
@@ -53,7 +53,7 @@ module _ {jobs : Jobs} (service : Service jobs) (class : Class) where
     pub job : ℕ
     pub inside : job < jobs .count
     pub in-class : class job ≡ true
-    pub arrived : jobs .arrive job < t
+    pub released : jobs .release job < t
     pub undone : 0 < service .left t job
 
   pub open-some : (t : ℕ) → 0 < open-work service class t → Open-job t
@@ -61,28 +61,28 @@ module _ {jobs : Jobs} (service : Service jobs) (class : Class) where
   open-some t some =
       let found = sum-some (jobs .count) _ some in
       let k = found .place in
-      let before = ltb (jobs .arrive k) t in
+      let before = ltb (jobs .release k) t in
       let passes = only-through (class k && before) (service .left t k) 0 (found .more) in
       record {
         job = k;
         inside = found .inside;
         in-class = and-true-left (class k) before passes;
-        arrived = ltb-true (jobs .arrive k) t (and-true-right (class k) before passes);
+        released = ltb-true (jobs .release k) t (and-true-right (class k) before passes);
         undone = omega (arith, found .more, only-most (class k && before) (service .left t k));
       }
 
-  -- before tick 0 nothing has arrived
+  -- before tick 0 nothing was released
   pub open-start : open-work service class 0 ≡ 0
   open-start =
       elim (lt-or-le 0 (open-work service class 0)) [
-        | inl some ↦ absurd (omega (arith, open-some 0 some .arrived))
+        | inl some ↦ absurd (omega (arith, open-some 0 some .released))
         | inr none ↦ omega arith
       ]
 
   pub came-split : (q x : ℕ) → q ≤ x → later q ≡ came jobs class q x + later x
   unfolding came
   came-split q x after =
-      sum-cong (jobs .count) _ _ (λ k inside. came-one (class k) q x (jobs .arrive k) (jobs .amount k) after)
+      sum-cong (jobs .count) _ _ (λ k inside. came-one (class k) q x (jobs .release k) (jobs .amount k) after)
       ∙ sum-+ (jobs .count) _ _
 
   pub rest-split : (t : ℕ) → rest t ≡ open-work service class t + later t

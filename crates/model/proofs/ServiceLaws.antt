@@ -1,4 +1,4 @@
--- A run of any machine: what is left never rises, a job that has not arrived is whole, and the run is a schedule that
+-- A run of any machine: what is left never rises, a job that is not released is whole, and the run is a schedule that
 -- gives each job what it no longer has left.
 -- Assumes nothing.
 use mathlib.Core.Bool.{Bool, true, false, false≢true}
@@ -51,29 +51,29 @@ module _ {jobs : Jobs} (service : Service jobs) where
         one = rw (here, eq-eqb k k refl)
 
     -- a tick that goes to a job comes no earlier than it
-    arrived : (t : ℕ) → is-for (service .serves t) k ≡ true → jobs .arrive k ≤ t
-    arrived t counts = service .ready t k (is-for-at (service .serves t) k counts) .arrived
+    released : (t : ℕ) → is-for (service .serves t) k ≡ true → jobs .release k ≤ t
+    released t counts = service .ready t k (is-for-at (service .serves t) k counts) .released
 
-    -- a job that has not arrived is whole
-    pub whole : (t : ℕ) → t ≤ jobs .arrive k → service .left t k ≡ jobs .amount k
+    -- a job that is not released is whole
+    pub whole : (t : ℕ) → t ≤ jobs .release k → service .left t k ≡ jobs .amount k
     whole zero early = service .start k inside
     whole (suc t) early = which (is-for (service .serves t) k) refl (whole t (omega arith))
       where
         which : (counts : Bool) → is-for (service .serves t) k ≡ counts → service .left t k ≡ jobs .amount k
             → service .left (suc t) k ≡ jobs .amount k
-        which true here so-far = absurd (omega (arith, arrived t here))
+        which true here so-far = absurd (omega (arith, released t here))
         which false other so-far = omega (arith, service-tick t, ap (λ (c : Bool). only c 1) other)
 
     -- the run is a schedule: what a job has left and what it got make up its amount
     pub service-gets : (t : ℕ)
-        → service .left t k + units (service .serves) k (jobs .arrive k) t ≡ jobs .amount k
-    service-gets zero = omega (arith, service .start k inside, units-start (service .serves) k (jobs .arrive k))
+        → service .left t k + units (service .serves) k (jobs .release k) t ≡ jobs .amount k
+    service-gets zero = omega (arith, service .start k inside, units-start (service .serves) k (jobs .release k))
     service-gets (suc t) =
         let here = is-for (service .serves t) k in
         omega (
           arith,
           service-gets t,
           service-tick t,
-          units-suc (service .serves) k (jobs .arrive k) t,
-          only-implied (leb (jobs .arrive k) t) here 1 (λ counts. le-leb (jobs .arrive k) t (arrived t counts)),
+          units-suc (service .serves) k (jobs .release k) t,
+          only-implied (leb (jobs .release k) t) here 1 (λ counts. le-leb (jobs .release k) t (released t counts)),
         )

@@ -4,21 +4,24 @@ use Prim.Native.Nat.{ℕ, _+_}
 use Rattle.model.specs.Task.{Table}
 use Rattle.model.specs.Request.{Requests}
 
--- `count` jobs by their number; each asks for `amount` ticks, from `arrive` on and before `due`
+-- `count` jobs by their number; each asks for `amount` ticks, from `release` on and before `due`. When its request came,
+-- `arrive`, is for the orders alone: their last tie goes by it.
 pub record Jobs : Type 0 where
   pub count : ℕ
   pub task : ℕ → ℕ
   pub arrive : ℕ → ℕ
+  pub release : ℕ → ℕ
   pub due : ℕ → ℕ
   pub amount : ℕ → ℕ
 
--- "A request arriving at a must be done by a + D", and E is its run time
+-- "A request arriving at a must be done by a + D", and E is its run time. It may run from its arrival on.
 abbrev pub jobs-of : Table → Requests → Jobs
 jobs-of table list =
     record {
       count = list .count;
       task = λ k. list .request k .task;
       arrive = λ k. list .request k .arrival;
+      release = λ k. list .request k .arrival;
       due = λ k. list .request k .arrival + table .task (list .request k .task) .D (list .request k .frame);
       amount = λ k. table .task (list .request k .task) .E (list .request k .frame);
     }

@@ -40,7 +40,7 @@ pick test before (suc n) =
 
 -- "arrived, unfinished"
 abbrev pub ready : Jobs → ℕ → (ℕ → ℕ) → ℕ → Bool
-ready jobs t left k = leb (jobs .arrive k) t && ltb 0 (left k)
+ready jobs t left k = leb (jobs .release k) t && ltb 0 (left k)
 
 abbrev pub chosen : Jobs → Order → ℕ → (ℕ → ℕ) → Found
 chosen jobs before t left = pick (ready jobs t left) before (jobs .count)

@@ -21,16 +21,16 @@ is-for nowhere k = false
 unfoldable pub units : Schedule → ℕ → ℕ → ℕ → ℕ
 units schedule k a b = sum b (λ t. only (leb a t && is-for (schedule t) k) 1)
 
--- "A request arriving at a must be done by a + D": a job gets less than its amount from its arrival to its deadline
+-- "A request arriving at a must be done by a + D": a job gets less than its amount from its release to its deadline
 pub record Unfinished (jobs : Jobs) (schedule : Schedule) : Type 0 where
   pub job : ℕ
   pub inside : job < jobs .count
-  pub short : units schedule job (jobs .arrive job) (jobs .due job) < jobs .amount job
+  pub short : units schedule job (jobs .release job) (jobs .due job) < jobs .amount job
 
--- what the jobs that arrive at a or later and are due by b ask for
+-- what the jobs that are released at a or later and are due by b ask for
 unfoldable pub due-within : Jobs → ℕ → ℕ → ℕ
 due-within jobs a b =
-    sum (jobs .count) (λ k. only (leb a (jobs .arrive k) && leb (jobs .due k) b) (jobs .amount k))
+    sum (jobs .count) (λ k. only (leb a (jobs .release k) && leb (jobs .due k) b) (jobs .amount k))
 
 -- more is due between a and b than there are ticks
 abbrev pub Too-much : Jobs → ℕ → ℕ → Type 0

@@ -44,7 +44,7 @@ pub record Serves (class : Class) (served : Found) : Type 0 where
   pub is : served ≡ at job
   pub in-class : class job ≡ true
 
--- before tick d, a tick at which a job of the class has arrived and is not done goes to one of the class
+-- before tick d, a tick at which a job of the class is released and not done goes to one of the class
 abbrev pub Prefers : {jobs : Jobs} → Service jobs → Class → ℕ → Type 0
 Prefers {jobs} service class d =
     (t k : ℕ) → t < d → class k ≡ true → Pending jobs t (service .left t) k → Serves class (service .serves t)
@@ -55,15 +55,15 @@ Leads before class = (i j : ℕ) → class j ≡ true → before j i ≡ false �
 
 -- ---- the busy interval
 
--- the work of the class that arrives at q or later and before x
+-- the work of the class that is released at q or later and before x
 unfoldable pub came : Jobs → Class → ℕ → ℕ → ℕ
 came jobs class q x =
-    sum (jobs .count) (λ k. only (class k && (leb q (jobs .arrive k) && ltb (jobs .arrive k) x)) (jobs .amount k))
+    sum (jobs .count) (λ k. only (class k && (leb q (jobs .release k) && ltb (jobs .release k) x)) (jobs .amount k))
 
--- what is left before tick t of the work of the class that arrived before t
+-- what is left before tick t of the work of the class that was released before t
 unfoldable pub open-work : {jobs : Jobs} → Service jobs → Class → ℕ → ℕ
 open-work {jobs} service class t =
-    sum (jobs .count) (λ k. only (class k && ltb (jobs .arrive k) t) (service .left t k))
+    sum (jobs .count) (λ k. only (class k && ltb (jobs .release k) t) (service .left t k))
 
 -- the class was last clear before tick `from`; since then some of it was always left, and at every x up to d more of it
 -- had come than there were ticks
@@ -77,7 +77,7 @@ pub record Busy {jobs : Jobs} (service : Service jobs) (class : Class) (d : ℕ)
 -- ---- what jobs must keep to, that the earliest-deadline machine finishes them all
 
 pub record Passes (jobs : Jobs) (window : ℕ) : Type 0 where
-  pub lasts : (k : ℕ) → k < jobs .count → jobs .arrive k < jobs .due k
+  pub lasts : (k : ℕ) → k < jobs .count → jobs .release k < jobs .due k
   pub from : 1 ≤ window
   -- no more arrives in any window than it has ticks
   pub closes : (a : ℕ) → came jobs every-job a (a + window) ≤ window

@@ -10,7 +10,7 @@ use Rattle.model.specs.Machine.{Order}
 -- "arrived, unfinished"
 pub record Pending (jobs : Jobs) (t : ℕ) (left : ℕ → ℕ) (k : ℕ) : Type 0 where
   pub inside : k < jobs .count
-  pub arrived : jobs .arrive k ≤ t
+  pub released : jobs .release k ≤ t
   pub undone : 0 < left k
 
 -- "work left and deadline at most T"

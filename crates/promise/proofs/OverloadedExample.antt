@@ -47,7 +47,7 @@ own-is : B-no-schedule its-own .job ≡ 1
 unfolding A B B-list record-of records-before records-of task-of entry-of sum units left-at pick sooner
 own-is = let left = B-no-schedule its-own in which (left .job) (left .inside) (left .short)
   where
-    which : (k : ℕ) → k < B-jobs .count → units its-own k (B-jobs .arrive k) (B-jobs .due k) < B-jobs .amount k → k ≡ 1
+    which : (k : ℕ) → k < B-jobs .count → units its-own k (B-jobs .release k) (B-jobs .due k) < B-jobs .amount k → k ≡ 1
     which zero inside short = absurd (omega arith)
     which (suc zero) inside short = refl
     which (suc (suc k)) inside short = absurd (omega arith)
@@ -57,7 +57,7 @@ unfolding A B B-list record-of records-before records-of task-of entry-of sum un
 other-is =
     let left = B-no-schedule other-first in which (left .job) (left .inside) (left .short)
   where
-    which : (k : ℕ) → k < B-jobs .count → units other-first k (B-jobs .arrive k) (B-jobs .due k) < B-jobs .amount k
+    which : (k : ℕ) → k < B-jobs .count → units other-first k (B-jobs .release k) (B-jobs .due k) < B-jobs .amount k
         → k ≡ 0
     which zero inside short = refl
     which (suc zero) inside short = absurd (omega arith)

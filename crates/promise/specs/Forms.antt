@@ -107,6 +107,7 @@ read-state r =
       left = r .left;
       due = r .due;
       arrive = r .arrive;
+      release = r .release;
       task = r .task;
       outcome = outcome-by (r .outcome) (r .index);
     }

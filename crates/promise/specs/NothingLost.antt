@@ -27,7 +27,16 @@ pub record Stepped (b : Bench) : Type 0 where
 abbrev pub zero-state : State
 zero-state =
     let zeros : List ℕ = replicate most-requests 0 in
-    record { tick = 0; outcome = 0; index = 0; left = zeros; due = zeros; arrive = zeros; task = zeros }
+    record {
+      tick = 0;
+      outcome = 0;
+      index = 0;
+      left = zeros;
+      due = zeros;
+      arrive = zeros;
+      release = zeros;
+      task = zeros;
+    }
 
 abbrev pub Idle-zero : Type 0
 Idle-zero = flat-bench (loaded no-jobs) ≡ zero-state

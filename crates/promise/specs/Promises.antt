@@ -35,12 +35,13 @@ Finishes-each table list =
     let jobs = jobs-of table list in
     (i : ℕ) → i < list .count → left-at jobs (sooner jobs) (jobs .due i) i ≡ 0
 
--- in the words of any schedule: the machine's own ticks from its arrival on and before its deadline are a request's E
+-- in the words of any schedule: the machine's own ticks from its release, its arrival, on and before its deadline are a
+-- request's E
 abbrev pub Serves-each : Table → Requests → Type 0
 Serves-each table list =
     let jobs = jobs-of table list in
     (i : ℕ) → i < list .count
-    → units (machine-serves jobs (sooner jobs)) i (jobs .arrive i) (jobs .due i) ≡ jobs .amount i
+    → units (machine-serves jobs (sooner jobs)) i (jobs .release i) (jobs .due i) ≡ jobs .amount i
 
 -- `replay` answers *all met*
 pub record Replays-met (s list : List ℕ) : Type 0 where

@@ -25,11 +25,11 @@ pub fn about_the_list(ask: &mut Ask) -> Same<()> {
 }
 
 // Every request is done or missed by the greatest deadline; and all are done once there was time for them
-// after the last arrival.
+// after the last release.
 fn most_ticks(loaded: &second::State) -> u64 {
     let greatest = |all: &[u32]| all.iter().copied().max().map_or(0, u64::from);
     let work: u64 = loaded.left.iter().copied().map(u64::from).sum();
-    greatest(&loaded.due).min(greatest(&loaded.arrive) + work) + 2
+    greatest(&loaded.due).min(greatest(&loaded.release) + work) + 2
 }
 
 // The replay's answer, as a call and as the lines of two commands.

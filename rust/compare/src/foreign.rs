@@ -72,6 +72,7 @@ fn state(rng: &mut Rng) -> State {
             s.left[i] = rng.pick(&[0, 1, 2, 7, u32::MAX]);
             s.due[i] = deadline(rng, s.tick, calm);
             s.arrive[i] = near(rng, s.tick);
+            s.release[i] = near(rng, s.tick);
             s.task[i] = rng.between(0, high) as u8;
         }
     }

@@ -10,6 +10,7 @@ pub const BLANK: raw::State = raw::State {
     left: [0; MOST_REQUESTS],
     due: [0; MOST_REQUESTS],
     arrive: [0; MOST_REQUESTS],
+    release: [0; MOST_REQUESTS],
     task: [0; MOST_REQUESTS],
 };
 
@@ -27,6 +28,7 @@ pub fn flat_state(s: &second::State) -> raw::State {
         left: s.left,
         due: s.due,
         arrive: s.arrive,
+        release: s.release,
         task: s.task,
     }
 }
@@ -44,6 +46,7 @@ pub fn held(s: &raw::State) -> Option<second::State> {
         left: s.left,
         due: s.due,
         arrive: s.arrive,
+        release: s.release,
         task: s.task,
         end,
     })

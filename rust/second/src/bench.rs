@@ -14,14 +14,16 @@ pub enum End {
     AllMet,
 }
 
-/// A bench state: for each record of the list what it has left, when it is due, when it arrives
-/// and its task. Slots past the list hold 0 in every array.
+/// A bench state: for each record of the list what it has left, when it is due, when it arrives,
+/// from when on it may run, which is its arrival, and its task. Slots past the list hold 0 in every
+/// array.
 #[derive(Debug, Clone, PartialEq)]
 pub struct State {
     pub tick: u32,
     pub left: [u32; 128],
     pub due: [u32; 128],
     pub arrive: [u32; 128],
+    pub release: [u32; 128],
     pub task: [u8; 128],
     pub end: End,
 }
@@ -36,6 +38,7 @@ pub fn load(table: &[u8], list: &[u8]) -> Result<(usize, State), No> {
         left: [0; 128],
         due: [0; 128],
         arrive: [0; 128],
+        release: [0; 128],
         task: [0; 128],
         end: End::Running,
     };
@@ -45,6 +48,7 @@ pub fn load(table: &[u8], list: &[u8]) -> Result<(usize, State), No> {
         // "A request arriving at a must be done by a + D."
         state.due[index] = (request.arrival + frame.d) as u32;
         state.arrive[index] = request.arrival as u32;
+        state.release[index] = request.arrival as u32;
         state.task[index] = request.task as u8;
     }
     Ok((requests.len(), state))
@@ -86,7 +90,7 @@ fn missed(state: &State) -> Option<usize> {
 fn first(state: &State) -> Option<usize> {
     let mut first: Option<usize> = None;
     for record in 0..128 {
-        if state.left[record] == 0 || state.arrive[record] > state.tick {
+        if state.left[record] == 0 || state.release[record] > state.tick {
             continue;
         }
         match first {

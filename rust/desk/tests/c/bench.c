@@ -34,7 +34,7 @@ static void ticked_to_all_met(void)
     static const uint8_t list[] = {REQUEST(0, 1, 0), REQUEST(1, 0, 0), REQUEST(0, 2, 4)};
     static const int runs[] = {0, 0, 1, IDLE, 2, 2, 2, 2, 2};
     struct limpidorsa_state wanted = {
-        .left = {2, 1, 5}, .due = {2, 4, 12}, .arrive = {0, 0, 4}, .task = {0, 1, 0}};
+        .left = {2, 1, 5}, .due = {2, 4, 12}, .arrive = {0, 0, 4}, .release = {0, 0, 4}, .task = {0, 1, 0}};
     struct limpidorsa_loaded loaded = limpidorsa_load(BYTES(A_1_4_12), BYTES(list));
     CHECK(loaded, loaded, answered(), 3, wanted);
 
@@ -58,7 +58,7 @@ static void longest_run(void)
 {
     static const uint8_t list[] = {REQUEST(0, 0, 65535)};
     struct limpidorsa_state wanted = {
-        .tick = 131070, .outcome = LIMPIDORSA_ALL_MET, .due = {131070}, .arrive = {65535}};
+        .tick = 131070, .outcome = LIMPIDORSA_ALL_MET, .due = {131070}, .arrive = {65535}, .release = {65535}};
     struct limpidorsa_state bench = limpidorsa_load(BYTES(LONGEST), BYTES(list)).state;
     int64_t calls = 0;
     while (bench.outcome == LIMPIDORSA_RUNNING && calls < 200000) {
@@ -89,6 +89,7 @@ static struct limpidorsa_state foreign(void)
         state.left[i] = UINT32_MAX - i;
         state.due[i] = UINT32_MAX - 1000 * i;
         state.arrive[i] = 131070 - i;
+        state.release[i] = 131070 - i / 2;
         state.task[i] = (uint8_t)(255 - i);
     }
     return state;

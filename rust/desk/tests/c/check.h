@@ -124,7 +124,8 @@ static inline void check_state(struct site at, struct limpidorsa_state found, st
     FIELD(tick, wanted.tick), FIELD(outcome, wanted.outcome), FIELD(index, wanted.index);
     for (int i = 0; i < LIMPIDORSA_MOST_REQUESTS; i++) {
         FIELD(left[i], wanted.left[i]), FIELD(due[i], wanted.due[i]);
-        FIELD(arrive[i], wanted.arrive[i]), FIELD(task[i], wanted.task[i]);
+        FIELD(arrive[i], wanted.arrive[i]), FIELD(release[i], wanted.release[i]);
+        FIELD(task[i], wanted.task[i]);
     }
 }
 

@@ -9,6 +9,7 @@ fn empty(tick: u32) -> State {
         left: [0; 128],
         due: [0; 128],
         arrive: [0; 128],
+        release: [0; 128],
         task: [0; 128],
         end: End::Running,
     }
@@ -111,11 +112,11 @@ fn ties_by_task_then_arrival_then_index() {
     }
     state.left[0] = 1;
     state.due[0] = 10;
-    state.arrive[0] = 10;
+    state.release[0] = 10;
     let after = tick(state.clone());
     state.tick = 10;
     state.left[11] -= 1;
-    assert_eq!(after, state, "record 0 has not yet arrived");
+    assert_eq!(after, state, "record 0 may not yet run");
 }
 
 #[test]

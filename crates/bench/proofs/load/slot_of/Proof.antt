@@ -14,7 +14,7 @@ add-t9 c = search needs
 returns : tie.Need-returns
 returns c =
     let found = c .before .before .before .frame-at .ensures in
-    record { left-is = found .e; due-is = search needs; arrive-is = refl; task-is = refl }
+    record { left-is = found .e; due-is = search needs; arrive-is = refl; release-is = refl; task-is = refl }
 
 pub slot-of-spec : {M : Type 1} → statement M
 slot-of-spec =

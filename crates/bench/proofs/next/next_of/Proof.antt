@@ -12,10 +12,10 @@ use Rattle.bench.proofs.next.next_of.Statement.{statement}
 use Rattle.bench.proofs.next.next_of.Tie as tie
 
 abbrev Inv-loop : tie.InvT-loop
-Inv-loop left due arrive task t best₀ i₀ best i = Tried (slot-jobs left due arrive task) t i best
+Inv-loop left due arrive release task t best₀ i₀ best i = Tried (slot-jobs left due arrive release task) t i best
 
 abbrev μ-loop : tie.MeasureT-loop
-μ-loop left due arrive task t best₀ i₀ best i = most-requests - i
+μ-loop left due arrive release task t best₀ i₀ best i = most-requests - i
 
 loop-holds : tie.Need-loop-holds Inv-loop μ-loop
 loop-holds c = tried-start _ _

@@ -129,8 +129,9 @@ struct limpidorsa_ending {
 /* What `outcome` is in a state. Any other number is a bench that has stopped. */
 enum { LIMPIDORSA_RUNNING = 0, LIMPIDORSA_MISSED = 1, LIMPIDORSA_ALL_MET = 2 };
 
-/* The bench before a tick: what each request has left, its deadline, its arrival and its task, in the list's order, and
- * zero where there is no request. `index` is the record that missed, and 0 in any other outcome. */
+/* The bench before a tick: what each request has left, its deadline, its arrival, its release, which is the tick from
+ * which it may run (that of its arrival), and its task, in the list's order, and zero where there is no request.
+ * `index` is the record that missed, and 0 in any other outcome. */
 struct limpidorsa_state {
     uint32_t tick;
     uint8_t outcome;
@@ -138,6 +139,7 @@ struct limpidorsa_state {
     uint32_t left[LIMPIDORSA_MOST_REQUESTS];
     uint32_t due[LIMPIDORSA_MOST_REQUESTS];
     uint32_t arrive[LIMPIDORSA_MOST_REQUESTS];
+    uint32_t release[LIMPIDORSA_MOST_REQUESTS];
     uint8_t task[LIMPIDORSA_MOST_REQUESTS];
 };
 

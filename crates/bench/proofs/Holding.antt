@@ -17,10 +17,20 @@ use Rattle.bench.specs.declared.state.Bench.{Bench}
 use Rattle.bench.specs.declared.state.Outcome.{Outcome}
 use Rattle.bench.specs.Rule.{jobs-in, next-in, less-one, moved-on, with-outcome}
 use Rattle.bench.specs.Loaded.{loaded}
-use Rattle.bench.specs.Ticked.{left-in, Late-in}
+use Rattle.bench.specs.Ticked.{left-in, Late-in, Kept}
 use Rattle.bench.specs.BenchMeaning.{Holds}
 use Rattle.bench.proofs.LoadedLaws.{slots-at, slots-read, slots-past}
 use Rattle.bench.proofs.SlotLaws.{less-one-at}
+
+-- what was kept is kept a step on
+kept-still : {first b next : Bench} → Kept first b → Kept b next → Kept first next
+kept-still was is =
+    record {
+      due = is .due ∙ was .due;
+      arrive = is .arrive ∙ was .arrive;
+      release = is .release ∙ was .release;
+      task = is .task ∙ was .task;
+    }
 
 -- whatever its outcome
 pub holds-stopped : {jobs : Jobs} {t : ℕ} {b : Bench} {outcome : Outcome} → Holds jobs t b
@@ -30,7 +40,7 @@ holds-stopped holds =
       tick = holds .tick;
       left = holds .left;
       past = holds .past;
-      kept = record { due = holds .kept .due; arrive = holds .kept .arrive; release = holds .kept .release; task = holds .kept .task };
+      kept = kept-still (holds .kept) (record { due = refl; arrive = refl; release = refl; task = refl });
     }
 
 module _ (jobs : Jobs) (fits : jobs .count ≤ most-requests) where
@@ -124,5 +134,5 @@ module _ (jobs : Jobs) (fits : jobs .count ≤ most-requests) where
           tick = add-one (b .tick) ∙ ap suc (holds .tick);
           left = moved-left;
           past = moved-past;
-          kept = record { due = holds .kept .due; arrive = holds .kept .arrive; release = holds .kept .release; task = holds .kept .task };
+          kept = kept-still (holds .kept) (record { due = refl; arrive = refl; release = refl; task = refl });
         }

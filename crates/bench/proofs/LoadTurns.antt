@@ -127,6 +127,7 @@ abbrev zeros : List ℕ
 zeros = replicate most-requests 0
 
 pub loaded-none :
-    record { tick = 0; left = zeros; due = zeros; arrive = zeros; release = zeros; task = zeros; outcome = Running } ≡ loaded no-jobs
+    record { tick = 0; left = zeros; due = zeros; arrive = zeros; release = zeros; task = zeros; outcome = Running }
+    ≡ loaded no-jobs
 unfolding loaded
 loaded-none = rw (sym (slots-none (no-jobs .amount)))

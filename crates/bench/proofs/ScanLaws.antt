@@ -12,7 +12,7 @@ use Rattle.model.specs.Replay.{last-tick}
 use Rattle.model.proofs.PickLaws.{pick-below, pick-passes}
 use Rattle.requests.specs.Entry.{most-requests}
 use Rattle.bench.specs.declared.state.Bench.{Bench}
-use Rattle.bench.specs.Rule.{slot-jobs, has-left, is-late, first-late, first-left, next-of, next-in}
+use Rattle.bench.specs.Rule.{jobs-in, has-left, is-late, first-late, first-left, next-of, next-in}
 use Rattle.bench.specs.Scan.{Servable}
 
 module _ (b : Bench) where
@@ -24,7 +24,7 @@ module _ (b : Bench) where
   left-place = place-or most-requests (least-from (has-left (b .left)) most-requests 0)
 
   abbrev next-place : ℕ
-  next-place = place-or most-requests (next-of (slot-jobs (b .left) (b .due) (b .arrive) (b .release) (b .task)) (b .tick))
+  next-place = place-or most-requests (next-of (jobs-in b) (b .tick))
 
   pub late-found : (i : ℕ) → i ≡ late-place → i < most-requests → first-late b ≡ at i
   unfolding first-late

@@ -96,9 +96,9 @@ pub const MISSED: u8 = 1;
 
 pub const ALL_MET: u8 = 2;
 
-// The bench before a tick: what each request has left, its deadline, its arrival, the tick from which it may run (its
-// arrival too) and its task, in the list's order, and zero where there is no request. `index` is the record that missed,
-// and 0 in any other outcome.
+// The bench before a tick: what each request has left, its deadline, its arrival, its release, which is the tick from
+// which it may run (that of its arrival), and its task, in the list's order, and zero where there is no request.
+// `index` is the record that missed, and 0 in any other outcome.
 #[repr(C)]
 pub struct State {
     pub tick: u32,

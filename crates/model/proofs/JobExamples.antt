@@ -1,5 +1,5 @@
--- Small jobs that meet what the laws about jobs ask: B's list, of which too much is due by 2, and one job of K6's
--- table, which passes with window 1. Jobs are written (release, due, amount).
+-- Small jobs that meet what the laws about jobs ask: B's list, of which too much is due by 2, two jobs that may run
+-- later than they come, and one job of K6's table, which passes with window 1. Jobs are written (release, due, amount).
 -- Assumes nothing.
 use mathlib.Core.Bool.{_&&_}
 use mathlib.Core.Path.{_≡_, refl}
@@ -8,6 +8,7 @@ use native.Mathlib.Nat.{le-trans}
 use native.Mathlib.Omega.{arith}
 use lib.Dec.{leb, ltb, lit<}
 use Rattle.laws.specs.Sums.{sum}
+use Rattle.laws.specs.Search.{at, nowhere}
 use Rattle.laws.proofs.TallyLaws.{tally-most}
 use Rattle.model.specs.Jobs.{Jobs}
 use Rattle.model.specs.Machine.{sooner, pick, left-at}
@@ -57,6 +58,30 @@ too-many =
       };
       from-start = refl;
     }
+
+-- ---- two jobs of one task with one deadline, that may not run when they come: (1,9,2), which comes at 1, and (2,9,1),
+-- which comes at 0
+
+abbrev pub kept-back : Jobs
+kept-back =
+    record {
+      count = 2;
+      task = λ k. 0;
+      arrive = λ k. 1 - k;
+      release = λ k. 1 + k;
+      due = λ k. 9;
+      amount = λ k. 2 - k;
+    }
+
+-- the second is there first and may run last: it is ready by its release, and then goes first by its arrival
+pub record Released-first : Type 0 where
+  pub none : machine-serves kept-back (sooner kept-back) 0 ≡ nowhere
+  pub released : machine-serves kept-back (sooner kept-back) 1 ≡ at 0
+  pub earlier : machine-serves kept-back (sooner kept-back) 2 ≡ at 1
+
+pub released-first : Released-first
+unfolding left-at pick sooner
+released-first = record { none = refl; released = refl; earlier = refl }
 
 -- ---- K6's table: (0,1,1)
 

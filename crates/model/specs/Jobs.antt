@@ -4,8 +4,8 @@ use Prim.Native.Nat.{ℕ, _+_}
 use Rattle.model.specs.Task.{Table}
 use Rattle.model.specs.Request.{Requests}
 
--- `count` jobs by their number; each asks for `amount` ticks, from `release` on and before `due`. When its request came,
--- `arrive`, is for the orders alone: their last tie goes by it.
+-- `count` jobs by their number; each asks for `amount` ticks, from `release` on and before `due`. When its request
+-- came, `arrive`, is for the orders alone: their last tie goes by it.
 pub record Jobs : Type 0 where
   pub count : ℕ
   pub task : ℕ → ℕ

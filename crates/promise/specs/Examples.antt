@@ -19,7 +19,7 @@ use Rattle.model.specs.Schedule.{Schedule, Unfinished}
 use Rattle.model.specs.Service.{machine-serves}
 use Rattle.model.specs.Answer.{answered}
 use Rattle.model.proofs.EdgeExamples as Edge
-use Rattle.model.proofs.JobExamples.{Too-many, one-job}
+use Rattle.model.proofs.JobExamples.{Too-many, Released-first, one-job}
 use Rattle.model.proofs.PeakStart.{above}
 use Rattle.table.specs.TableOf.{table-of}
 use Rattle.requests.specs.Entry.{list-of}
@@ -124,4 +124,5 @@ pub record Examples : Type 0 where
   pub heaviest-start : counted above (λ i. 1) 10 3 ≡ work above 10
   -- the theorems about jobs
   pub too-many : Too-many
+  pub released-first : Released-first
   pub one-done : left-at one-job (sooner one-job) 1 0 ≡ 0

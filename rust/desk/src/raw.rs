@@ -111,6 +111,7 @@ pub struct State {
     pub left: [u32; MOST_REQUESTS],
     pub due: [u32; MOST_REQUESTS],
     pub arrive: [u32; MOST_REQUESTS],
+    pub release: [u32; MOST_REQUESTS],
     pub task: [u8; MOST_REQUESTS],
 }
 

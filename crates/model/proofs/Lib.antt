@@ -25,6 +25,7 @@ pub mod DueLaws
 pub mod LegalRuns
 pub mod LegalSums
 pub mod LegalPasses
+pub mod WovenDue
 pub mod OverloadLaws
 pub mod OverloadVerdict
 pub mod PickLeast

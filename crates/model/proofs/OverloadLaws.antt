@@ -1,73 +1,54 @@
 -- The overload list asks of the time up to t the demand at t, has a request where there is a demand, and none that
--- comes at t or later. Nothing is used of the list but that it is woven from the overload's runs.
+-- comes at t or later. Nothing is used of the list but that it is woven from the overload's runs, each of which goes up
+-- to the last request that is due by t.
 -- Assumes nothing.
-use mathlib.Core.Bool.{_&&_}
-use mathlib.Core.Path.{_≡_, _∙_}
-use mathlib.Core.Logic.{inl, inr}
-use Prim.Native.Nat.{ℕ, _+_, _≤_, _<_}
+use mathlib.Core.Path.{_≡_, refl, _∙_}
+use Prim.Native.Nat.{ℕ, _<_}
 use native.Mathlib.Omega.{arith}
-use lib.Dec.{leb}
-use Rattle.laws.specs.Sums.{only}
-use Rattle.laws.proofs.Cases.{lt-or-le}
-use Rattle.laws.proofs.SumLaws.{sum-zero, sum-cong}
+use Rattle.laws.proofs.SumLaws.{sum-cong}
 use Rattle.model.specs.Task.{Table, ProperTable}
-use Rattle.model.specs.Demand.{offset, demand, all-demands}
-use Rattle.model.specs.Run.{asked}
+use Rattle.model.specs.Demand.{counted, demand, all-demands}
 use Rattle.model.specs.Verdict.{start}
-use Rattle.model.specs.Request.{Request, Requests, of-task}
+use Rattle.model.specs.Request.{Requests}
 use Rattle.model.specs.Jobs.{jobs-of}
-use Rattle.model.specs.Weave.{Woven}
-use Rattle.model.specs.Overload.{requests-by, overload-runs}
+use Rattle.model.specs.Weave.{earliest, Woven}
+use Rattle.model.specs.Overload.{overload-runs}
 use Rattle.model.specs.Schedule.{due-within}
 use Rattle.model.proofs.StartLaws.{start-right}
-use Rattle.model.proofs.RunLaws.{earliest-sum}
-use Rattle.model.proofs.DueLaws.{run-near, requests-counted}
-use Rattle.model.proofs.WovenSums.{woven-sum}
-use Rattle.model.proofs.WovenOne.{woven-left}
+use Rattle.model.proofs.ScheduleLaws.{due-some}
+use Rattle.model.proofs.WovenDue.{Runs-between, earliest-near, woven-asks, woven-near}
 
 module _ {table : Table} (good : ProperTable table) (t : ℕ) where
   pub overload-inside : (k : ℕ) → k < table .tasks → start (table .task k) t < table .task k .count
   overload-inside k inside = start-right (table .task k) t (good .proper k inside .some) .inside
 
-  -- what the requests of task k ask of the time up to t: its demand
-  abbrev share : ℕ → ℕ
-  share k =
-      let task = table .task k in
-      let s = start task t in asked task (task .D) s (requests-by task s t) (offset task s) 0 t
+  -- every task has the t ticks from 0 on
+  overload-between : Runs-between table (overload-runs table t) (λ k. t) 0 t
+  overload-between =
+      record {
+        none-before = λ k inside. omega arith;
+        until = λ k inside. omega arith;
+        many-are = λ k inside. refl;
+      }
 
-  share-is : (k : ℕ) → k < table .tasks → share k ≡ demand (table .task k) t
-  share-is k inside =
-      let task = table .task k in
-      let s = start task t in
-      let proper = good .proper k inside in
-      earliest-sum task (task .D) s (requests-by task s t) t
-      ∙ requests-counted proper s t
-      ∙ start-right task t (proper .some) .gives
+  -- none of their requests comes at t or later
+  pub overload-before : (k n : ℕ) → k < table .tasks → n < overload-runs table t .many k
+      → earliest table (overload-runs table t) k n .arrival < t
+  overload-before = earliest-near good overload-between
 
   module _ (list : Requests) (woven : Woven table (overload-runs table t) list) where
+    -- the sum from a task's start is its demand
     pub overload-asks : due-within (jobs-of table list) 0 t ≡ all-demands table t
-    unfolding due-within all-demands asked
+    unfolding all-demands
     overload-asks =
-        woven-sum woven asks ∙ sum-cong (table .tasks) share (λ k. demand (table .task k) t) share-is
-      where
-        asks : Request → ℕ
-        asks r =
-            let task = table .task (r .task) in
-            only (leb 0 (r .arrival) && leb (r .arrival + task .D (r .frame)) t) (task .E (r .frame))
+        woven-asks good overload-between woven
+        ∙ sum-cong (table .tasks)
+        (λ k. counted (table .task k) (table .task k .D) t (start (table .task k) t))
+        (λ k. demand (table .task k) t)
+        (λ k inside. start-right (table .task k) t (good .proper k inside .some) .gives)
 
-    -- no request asks nothing
     pub overload-some : 0 < all-demands table t → 0 < list .count
-    unfolding due-within
-    overload-some some =
-        elim (lt-or-le 0 (list .count))
-        [ inl more ↦ more | inr none ↦ absurd (omega (arith, overload-asks, asks-none none)) ]
-      where
-        asks-none : list .count ≤ 0 → due-within (jobs-of table list) 0 t ≡ 0
-        asks-none none = let empty : list .count ≡ 0 = omega arith in rw empty (sum-zero _)
+    overload-some some = due-some (jobs-of table list) 0 t (omega (arith, overload-asks))
 
     pub overload-near : (i : ℕ) → i < list .count → list .request i .arrival < t
-    overload-near i inside =
-        let k = list .request i .task in
-        rw (woven .in-turn i inside)
-        (run-near (good .proper k (woven .known i inside)) (start (table .task k) t) t (of-task list k i)
-        (woven-left woven i inside))
+    overload-near = woven-near good overload-between woven

@@ -1,7 +1,7 @@
 -- What any run of a task's requests asks of an interval is at most the greatest cyclic sum at its length.
 -- Assumes nothing.
 use mathlib.Core.Bool.{Bool, true, false, _&&_}
-use mathlib.Core.Path.{_≡_, _∙_, ap, ap₂}
+use mathlib.Core.Path.{_≡_, sym, _∙_, ap, ap₂}
 use mathlib.Core.Logic.{inl, inr}
 use Prim.Native.Nat.{ℕ, zero, suc, _+_, _-_, _≤_, _<_}
 use native.Mathlib.Nat.{le-refl}
@@ -14,7 +14,7 @@ use Rattle.laws.proofs.SumLaws.{gate, sum-zero, sum-head, sum-cong}
 use Rattle.model.specs.Task.{Task}
 use Rattle.model.specs.Demand.{frame, offset, part, counted, most}
 use Rattle.model.specs.Run.{Run, asked}
-use Rattle.model.proofs.CyclicLaws.{Moves, frame-lt, frame-none, frame-on, counted-turns, counted-on}
+use Rattle.model.proofs.CyclicLaws.{Moves, frame-lt, frame-none, frame-on, offset-next, counted-turns, counted-on}
 use Rattle.model.proofs.DemandLaws.{counted-mono, counted-most}
 
 both-most : (x y : Bool) (e : ℕ) → only (x && y) e ≤ only y e
@@ -100,22 +100,35 @@ module _ {task : Task} {reach : ℕ → ℕ} (moves : Moves task reach) (a b : �
             )
       ]
 
--- the earliest arrivals are a run, and what they ask from 0 to t is the cyclic sum: the bound is met
-pub earliest-run : (task : Task) (s m : ℕ) → Run task s m (offset task s)
-unfolding offset
-earliest-run task s m n h = le-refl (offset task s n + task .P (frame task s n))
+-- ---- the earliest arrivals, from any first one on
 
-pub earliest-sum : (task : Task) (reach : ℕ → ℕ) (s m t : ℕ)
-    → asked task reach s m (offset task s) 0 t ≡ sum m (part task reach t s)
-unfolding asked
-earliest-sum task reach s m t =
-    sum-cong m (λ n. only (leb 0 (offset task s n) && due n) (task .E (frame task s n))) (part task reach t s)
-    (λ n h. rw (le-leb 0 (offset task s n) (omega arith)))
-  where
-    due : ℕ → Bool
-    due n = leb (offset task s n + reach (frame task s n)) t
+module _ (task : Task) (s m from : ℕ) where
+  abbrev arrives : ℕ → ℕ
+  arrives n = from + offset task s n
 
-pub earliest-asked : {task : Task} {reach : ℕ → ℕ} → Moves task reach → (s m t : ℕ) → t ≤ m
-    → asked task reach s m (offset task s) 0 t ≡ counted task reach t s
-earliest-asked {task} {reach} moves s m t enough =
-    earliest-sum task reach s m t ∙ counted-turns moves m t s enough
+  pub earliest-run : Run task s m arrives
+  earliest-run n h = omega (arith, offset-next task s n)
+
+  -- of an interval that begins no later than they and ends t ticks after the first they ask the cyclic sum at t
+  pub earliest-sum : (reach : ℕ → ℕ) (a t : ℕ) → a ≤ from
+      → asked task reach s m arrives a (from + t) ≡ sum m (part task reach t s)
+  unfolding asked
+  earliest-sum reach a t begins =
+      sum-cong m (λ n. only (leb a (arrives n) && due n) (task .E (frame task s n))) (part task reach t s)
+      (λ n h. rw (le-leb a (arrives n) (omega arith), as-far (offset task s n) (reach (frame task s n))))
+    where
+      due : ℕ → Bool
+      due n = leb (arrives n + reach (frame task s n)) (from + t)
+
+      as-far : (off r : ℕ) → leb (from + off + r) (from + t) ≡ leb (off + r) t
+      as-far off r =
+          elim (lt-or-le t (off + r)) [
+            | inl out ↦ lt-leb (from + off + r) (from + t) (omega arith) ∙ sym (lt-leb (off + r) t out)
+            | inr fits ↦ le-leb (from + off + r) (from + t) (omega arith) ∙ sym (le-leb (off + r) t fits)
+          ]
+
+  -- the bound is met
+  pub earliest-asked : {reach : ℕ → ℕ} → Moves task reach → (t : ℕ) → t ≤ m
+      → asked task reach s m arrives from (from + t) ≡ counted task reach t s
+  earliest-asked {reach} moves t enough =
+      earliest-sum reach from t (le-refl from) ∙ counted-turns moves m t s enough

@@ -12,10 +12,11 @@ use Rattle.model.proofs.WovenOne.{woven-one}
 pub record Alike (table : Table) (runs other : Runs) : Type 0 where
   pub starts : (k : ℕ) → k < table .tasks → runs .start k ≡ other .start k
   pub many : (k : ℕ) → k < table .tasks → runs .many k ≡ other .many k
+  pub from : (k : ℕ) → k < table .tasks → runs .from k ≡ other .from k
 
 module _ {table : Table} {runs other : Runs} (alike : Alike table runs other) where
-  earliest-same : (k n : ℕ) → k < table .tasks → earliest table runs k n ≡ earliest table other k n
-  earliest-same k n inside = rw (alike .starts k inside)
+  pub earliest-same : (k n : ℕ) → k < table .tasks → earliest table runs k n ≡ earliest table other k n
+  earliest-same k n inside = rw (alike .starts k inside, alike .from k inside)
 
   woven-same : {list : Requests} → Woven table runs list → Woven table other list
   woven-same woven =

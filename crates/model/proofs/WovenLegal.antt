@@ -29,7 +29,7 @@ earliest-follows table runs k n =
     rw (add-one n)
     (record {
       frame-is = sym (frame-next (table .task k) (runs .start k) n);
-      not-soon = omega (arith, earliest-run (table .task k) (runs .start k) (suc (suc n)) n (le-refl (suc (suc n))));
+      not-soon = earliest-run (table .task k) (runs .start k) (suc (suc n)) (runs .from k) n (le-refl (suc (suc n)));
     })
 
 -- request i, where its task is known to be k

@@ -26,11 +26,12 @@ pub record Up-to-last-due (task : Task) (s t many : ℕ) : Type 0 where
   pub last : (n : ℕ) → many ≡ suc n → due-by task s t n ≡ true
   pub past : (n : ℕ) → many ≤ n → due-by task s t n ≡ false
 
--- "For each task, from its start frame"
+-- "For each task, from its start frame"; every task's first request comes at 0, as the demand counts its frames: "Start
+-- at frame s at time 0"
 abbrev pub overload-runs : Table → ℕ → Runs
 overload-runs table t =
     let first : ℕ → ℕ = λ k. start (table .task k) t in
-    record { start = first; many = λ k. requests-by (table .task k) (first k) t }
+    record { start = first; many = λ k. requests-by (table .task k) (first k) t; from = λ k. 0 }
 
 -- "Sorted by arrival, then task number."
 unfoldable pub overload-list : Table → ℕ → Requests

@@ -11,19 +11,20 @@ use Rattle.model.specs.Demand.{frame, offset}
 use Rattle.model.specs.Request.{Request, Requests, Sorted, of-task}
 use Rattle.model.specs.Machine.{Order, pick}
 
--- of each task, the frame of its first request, and how many requests it makes
+-- of each task, the frame of its first request, how many requests it makes, and when the first arrives
 pub record Runs : Type 0 where
   pub start : ℕ → ℕ
   pub many : ℕ → ℕ
+  pub from : ℕ → ℕ
 
 module _ (table : Table) (runs : Runs) where
-  -- "from its start frame, the earliest arrivals": request n of task k, from 0 on
+  -- "from its start frame, the earliest arrivals": request n of task k, n from 0 on
   abbrev pub earliest : ℕ → ℕ → Request
   earliest k n =
       record {
         task = k;
         frame = frame (table .task k) (runs .start k) n;
-        arrival = offset (table .task k) (runs .start k) n;
+        arrival = runs .from k + offset (table .task k) (runs .start k) n;
       }
 
   -- ---- what the list is, with no word of how it is put together

@@ -1,30 +1,32 @@
 -- What the writer has gathered before it writes: how many requests each task makes, and how many all make. They are
--- those of the overload list, so that what is put from them is the list's bytes; and the writer's ways out.
+-- those of the overload list, so that what is put from them is the list's bytes where every task begins at 0; and the
+-- writer's ways out.
 -- Assumes nothing.
 use mathlib.Core.Path.{_≡_, sym, ap, _∙_}
 use mathlib.Core.List.{List, _++_}
 use Prim.Native.Nat.{ℕ, _-_, _*_, _≤_, _<_}
 use native.Mathlib.Omega.{arith}
-use lib.ListN.{length, getD, drop, length-drop}
+use lib.ListN.{length, getD, drop, replicate, length-drop, getD-replicate}
 use borrow.Author.Tests.{lt-ltb}
 use borrow.Rule.Slice.PartMut.{putMid, midOf}
 use Rattle.laws.specs.Sums.{sum}
 use Rattle.laws.proofs.Fill.{tabulate-at}
+use Rattle.laws.proofs.SumLaws.{sum-cong}
 use Rattle.model.specs.Task.{ProperTable}
-use Rattle.model.specs.Request.{Same}
+use Rattle.model.specs.Request.{Request, Same}
 use Rattle.model.specs.Verdict.{start}
-use Rattle.model.specs.Weave.{weave}
+use Rattle.model.specs.Weave.{earliest, weave}
 use Rattle.model.specs.Overload.{requests-by, overload-runs, overload-list}
 use Rattle.model.proofs.StartLaws.{starts-inside}
-use Rattle.model.proofs.DueLaws.{run-near}
-use Rattle.model.proofs.OverloadLaws.{overload-inside}
+use Rattle.model.proofs.OverloadLaws.{overload-inside, overload-before}
 use Rattle.model.proofs.WeaveLaws.{weave-count}
-use Rattle.model.proofs.WeaveSame.{Alike, weave-same}
+use Rattle.model.proofs.WeaveSame.{Alike, earliest-same, weave-same}
 use Rattle.table.specs.Bytes.{Bytes, size}
 use Rattle.table.specs.TableOf.{table-of}
 use Rattle.table.specs.declared.plan.Plan.{Plan}
 use Rattle.table.proofs.ReadyLaws.{ready-tasks, ready-few, ready-proper}
 use Rattle.requests.specs.Entry.{bytes-of}
+use Rattle.sums.specs.Sized.{ceiling}
 use Rattle.requests.proofs.BytesLaws.{bytes-length, bytes-same}
 use Rattle.overload.specs.declared.write.Written.the-variants as written
 use Rattle.overload.specs.Counts.{Asked, many-in, counts}
@@ -60,37 +62,54 @@ module _ {s : List ℕ} {plan : Plan} {first : List ℕ} {t : ℕ} {many : List 
       rw (gathered .many-are)
       (tabulate-at 16 (many-in (table-of s) t) k (low k inside) ∙ rw (lt-ltb k (table-of s .tasks) inside))
 
-  alike : Alike (table-of s) (runs-of first many) (overload-runs (table-of s) t)
-  alike = record { starts = first-is; many = many-is }
-
-  gathered-list : Same (weave (table-of s) (runs-of first many)) (overload-list (table-of s) t)
+  gathered-count : n ≡ overload-list (table-of s) t .count
   unfolding overload-list
-  gathered-list = weave-same alike good
-
-  gathered-count : n ≡ weave (table-of s) (runs-of first many) .count
   gathered-count =
+      let runs = overload-runs (table-of s) t in
       gathered .total
       ∙ ap (λ (m : ℕ). sum m (λ k. getD many k 0)) (ready-tasks (gathered .asked .ready))
-      ∙ sym (weave-count (table-of s) (runs-of first many))
+      ∙ sum-cong (table-of s .tasks) (λ k. getD many k 0) (runs .many) many-is
+      ∙ sym (weave-count (table-of s) runs)
 
   pub gathered-long : length (bytes-of (overload-list (table-of s) t)) ≡ n * size
   gathered-long =
-      let list = overload-list (table-of s) t in
-      omega (arith, bytes-length list (list .count), gathered-count, gathered-list .count-is)
+      let list = overload-list (table-of s) t in omega (arith, bytes-length list (list .count), gathered-count)
+
+  -- every task's first request arrives at 0
+  module _ {from : List ℕ} (from-are : from ≡ replicate 16 0) where
+    alike : Alike (table-of s) (runs-of first many from) (overload-runs (table-of s) t)
+    alike =
+        record {
+          starts = first-is;
+          many = many-is;
+          from = λ k inside. rw from-are (getD-replicate {A = ℕ} 16 k 0 0 (low k inside));
+        }
+
+    gathered-list : Same (weave (table-of s) (runs-of first many from)) (overload-list (table-of s) t)
+    unfolding overload-list
+    gathered-list = weave-same alike good
+
+    gathered-near : (k i : ℕ) → k < table-of s .tasks → i < getD many k 0
+        → earliest (table-of s) (runs-of first many from) k i .arrival < ceiling
+    gathered-near k i inside made =
+        omega (
+          arith,
+          ap (λ (r : Request). r .arrival) (earliest-same alike k i inside),
+          overload-before good t k i inside (rw (many-is k inside) at made),
+          gathered .asked .within,
+        )
 
   -- ---- what the record writer asks, and the ways out
 
   module _ (buffer : List ℕ) (place : ℕ) (reached : place ≤ length buffer) where
-    pub gathered-puts : n * size ≤ length buffer - place →
-        Puts (table-of s) (runs-of first many) n (length (midOf place (length buffer - place) buffer))
-    gathered-puts room =
+    pub gathered-puts : {from : List ℕ} → from ≡ replicate 16 0 → n * size ≤ length buffer - place →
+        Puts (table-of s) (runs-of first many from) n (length (midOf place (length buffer - place) buffer))
+    gathered-puts from-are room =
         record {
-          count-is = gathered-count;
+          count-is = gathered-count ∙ sym (gathered-list from-are .count-is);
           fits = rw (lent-tail buffer place reached, length-drop place buffer) room;
           inside = λ k inside. rw (first-is k inside) (overload-inside good t k inside);
-          near = λ k i inside below.
-              let before = run-near (good .proper k inside) (start (table-of s .task k) t) t i in
-              rw (first-is k inside) (omega (arith, before (rw (many-is k inside) at below), gathered .asked .within));
+          near = gathered-near from-are;
         }
 
     abbrev list : List ℕ
@@ -100,11 +119,11 @@ module _ {s : List ℕ} {plan : Plan} {first : List ℕ} {t : ℕ} {many : List 
         Wrote buffer place (placed buffer place list) (written.Refused (record { number = 12; index = 0 })) buffer
     list-short short = wrote-short buffer place list reached (n * size) gathered-long short
 
-    pub list-whole : (last : List ℕ) → n * size ≤ length buffer - place →
-        let put = bytes-of (weave (table-of s) (runs-of first many)) in
+    pub list-whole : {from : List ℕ} → from ≡ replicate 16 0 → (last : List ℕ) → n * size ≤ length buffer - place →
+        let put = bytes-of (weave (table-of s) (runs-of first many from)) in
         last ≡ put ++ drop (n * size) (midOf place (length buffer - place) buffer) →
         Wrote buffer place (placed buffer place list) (written.Bytes (n * size))
         (putMid place (length buffer - place) buffer last)
-    list-whole last room last-is =
+    list-whole from-are last room last-is =
         wrote-whole buffer place list reached (n * size) gathered-long last room
-        (rw (bytes-same gathered-list) at last-is)
+        (rw (bytes-same (gathered-list from-are)) at last-is)

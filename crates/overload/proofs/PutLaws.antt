@@ -6,7 +6,7 @@ use Prim.Native.Nat.{ℕ, _+_, _-_, _*_, _≤_, _<_}
 use native.Mathlib.Numerals.{add-one}
 use native.Mathlib.Nat.{le-of-lt}
 use native.Mathlib.Omega.{arith}
-use lib.ListN.{length, drop, replicate, length-append, length-drop}
+use lib.ListN.{length, drop, length-append, length-drop}
 use borrow.Rule.Slice.PartMut.{putMid, midOf}
 use Rattle.model.specs.Task.{Table}
 use Rattle.model.specs.Request.{Requests}
@@ -37,11 +37,11 @@ pub record Putting (s : List ℕ) (plan : Plan) (runs : Runs) (n : ℕ) (lent ou
   pub full : Full lanes
   pub stand : Stand (table-of s) runs (taken-by (table-of s) runs i) lanes
 
-pub putting-start : {s : List ℕ} {plan : Plan} {starts many : List ℕ} {n : ℕ} {lent : List ℕ} → Ready s plan
-    → Puts (table-of s) (runs-of starts many) n (length lent)
-    → Full (record { left = many; frame = starts; arrival = replicate 16 0 })
-    → Putting s plan (runs-of starts many) n lent lent
-    (record { left = many; frame = starts; arrival = replicate 16 0 }) 0 0
+pub putting-start : {s : List ℕ} {plan : Plan} {starts many from : List ℕ} {n : ℕ} {lent : List ℕ} → Ready s plan
+    → Puts (table-of s) (runs-of starts many from) n (length lent)
+    → Full (record { left = many; frame = starts; arrival = from })
+    → Putting s plan (runs-of starts many from) n lent lent
+    (record { left = many; frame = starts; arrival = from }) 0 0
 unfolding bytes-to
 putting-start ready puts full =
     record {
@@ -52,7 +52,7 @@ putting-start ready puts full =
       long = refl;
       out-is = refl;
       full = full;
-      stand = stand-start puts (ready-few ready);
+      stand = stand-start puts;
     }
 
 -- records over the first bytes leave the length as it is

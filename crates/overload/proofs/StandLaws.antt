@@ -5,11 +5,12 @@ use mathlib.Core.Path.{_≡_, sym, _∙_, ap, ap₂}
 use mathlib.Core.List.{List}
 use mathlib.Core.Logic.{inl, inr}
 use Prim.Native.Nat.{ℕ, suc, _+_, _-_, _≤_, _<_}
+use native.Mathlib.Nat.{add-zero, add-assoc}
 use native.Mathlib.Numerals.{add-one}
 use native.Mathlib.Omega.{arith}
 use native.Mathlib.Decide.{ℕ-discrete}
 use lib.Dec.{ltb}
-use lib.ListN.{getD, replicate, getD-replicate}
+use lib.ListN.{getD}
 use lib.Seq.{getD-set-same, getD-set-other}
 use borrow.Author.Tests.{lt-ltb, le-ltb}
 use Rattle.laws.specs.Search.{place-or}
@@ -25,20 +26,16 @@ use Rattle.overload.specs.declared.lanes.Lanes.{Lanes}
 use Rattle.overload.proofs.MoveLaws.{Full}
 
 -- no request is taken, and each task's first is the next
-pub stand-start : {table : Table} {starts many : List ℕ} {n room : ℕ} → Puts table (runs-of starts many) n room
-    → table .tasks ≤ 16
-    → Stand table (runs-of starts many) (taken-by table (runs-of starts many) 0)
-    (record { left = many; frame = starts; arrival = replicate 16 0 })
-stand-start {table = table} {starts = starts} {many = many} puts few =
-    let runs = runs-of starts many in
+pub stand-start : {table : Table} {starts many from : List ℕ} {n room : ℕ}
+    → Puts table (runs-of starts many from) n room
+    → Stand table (runs-of starts many from) (taken-by table (runs-of starts many from) 0)
+    (record { left = many; frame = starts; arrival = from })
+stand-start {table} {starts} {many} {from} puts =
+    let runs = runs-of starts many from in
     record {
       left-is = λ k inside. omega (arith, taken-start table runs k);
-      next-is = λ k inside. rw (
-        taken-start table runs k,
-        frame-none (table .task k) (getD starts k 0) (puts .inside k inside),
-        offset-none (table .task k) (getD starts k 0),
-        getD-replicate {A = ℕ} 16 k 0 0 (omega arith),
-      );
+      next-is = λ k inside.
+          rw (taken-start table runs k, frame-none (table .task k) _ (puts .inside k inside), offset-none, add-zero);
     }
 
 -- ---- the front
@@ -56,7 +53,7 @@ module _ {table : Table} {runs : Runs} {taken : ℕ → ℕ} {lanes : Lanes} (st
     pub stand-frame : getD (lanes .frame) k 0 ≡ frame (table .task k) (runs .start k) (taken k)
     stand-frame = ap (λ x. x .frame) (stand .next-is k inside)
 
-    pub stand-arrival : getD (lanes .arrival) k 0 ≡ offset (table .task k) (runs .start k) (taken k)
+    pub stand-arrival : getD (lanes .arrival) k 0 ≡ runs .from k + offset (table .task k) (runs .start k) (taken k)
     stand-arrival = ap (λ x. x .arrival) (stand .next-is k inside)
 
   stand-front : front (table .tasks) lanes ≡ foremost table runs taken
@@ -112,12 +109,12 @@ module _ {table : Table} {runs : Runs} {lanes : Lanes} {i k : ℕ}
         let task = table .task k in
         let start = runs .start k in
         rw (
-          getD-set-same (lanes .frame) k (frame task (getD (lanes .frame) k 0) 1) 0 (omega (arith, full .frame)),
-          getD-set-same (lanes .arrival) k (getD (lanes .arrival) k 0 + task .P (getD (lanes .frame) k 0)) 0
-              (omega (arith, full .arrival)),
+          getD-set-same (lanes .frame) k _ 0 (omega (arith, full .frame)),
+          getD-set-same (lanes .arrival) k _ 0 (omega (arith, full .arrival)),
           one-more ∙ add-one (taken k),
           ← frame-next task start (taken k),
           offset-next task start (taken k),
+          ← add-assoc (runs .from k) (offset task start (taken k)) (task .P (frame task start (taken k))),
           stand-frame stand k turn-known,
           stand-arrival stand k turn-known,
         )

@@ -8,7 +8,7 @@ use lib.Dec.{ltb}
 use lib.ListN.{getD, set}
 use Rattle.laws.specs.Search.{place-or}
 use Rattle.model.specs.Task.{Table}
-use Rattle.model.specs.Demand.{frame, offset}
+use Rattle.model.specs.Demand.{frame}
 use Rattle.model.specs.Request.{Request, Has-frame}
 use Rattle.model.specs.Machine.{Order, pick}
 use Rattle.model.specs.Weave.{Runs, earliest, weave}
@@ -21,9 +21,10 @@ use Rattle.overload.specs.declared.lanes.Lanes.{Lanes}
 
 -- ---- what is asked
 
--- the runs that two arrays say
-abbrev pub runs-of : List ℕ → List ℕ → Runs
-runs-of starts many = record { start = λ k. getD starts k 0; many = λ k. getD many k 0 }
+-- the runs that three arrays say
+abbrev pub runs-of : List ℕ → List ℕ → List ℕ → Runs
+runs-of starts many from =
+    record { start = λ k. getD starts k 0; many = λ k. getD many k 0; from = λ k. getD from k 0 }
 
 -- what the writer of n requests in `room` bytes asks: the starts are frames of their tasks, and no arrival is past the
 -- ceiling
@@ -31,7 +32,7 @@ pub record Puts (table : Table) (runs : Runs) (n room : ℕ) : Type 0 where
   pub count-is : n ≡ weave table runs .count
   pub fits : n * size ≤ room
   pub inside : (k : ℕ) → k < table .tasks → runs .start k < table .task k .count
-  pub near : (k n : ℕ) → k < table .tasks → n < runs .many k → offset (table .task k) (runs .start k) n < ceiling
+  pub near : (k n : ℕ) → k < table .tasks → n < runs .many k → earliest table runs k n .arrival < ceiling
 
 -- ---- where each task stands
 

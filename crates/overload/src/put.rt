@@ -29,18 +29,27 @@ fn put_next(lanes: Lanes, k: usize, out: &mut [u8])
     out[7] = (a / 16777216) as u8;
 }
 
-// The n requests of all tasks, woven, at the front of what is lent.
-pub fn put_all(s: &[u8], plan: Plan, starts: [u8; 16], many: [u32; 16], n: usize, out: &mut [u8])
-    requires { ⌜ Ready (now s) plan × Puts (table-of (now s)) (runs-of starts many) n (length (now out)) ⌝ }
+// The n requests of all tasks, woven, at the front of what is lent: of each task so many from its start frame on, the
+// first at its time.
+pub fn put_all(
+    s: &[u8],
+    plan: Plan,
+    starts: [u8; 16],
+    many: [u32; 16],
+    from: [u32; 16],
+    n: usize,
+    out: &mut [u8],
+)
+    requires { ⌜ Ready (now s) plan × Puts (table-of (now s)) (runs-of starts many from) n (length (now out)) ⌝ }
     ensures { λ _. ⌜
         now (out .exit)
-        ≡ bytes-of (weave (table-of (now (s .entry))) (runs-of starts many)) ++ drop (n * size) (now (out .entry))
+        ≡ bytes-of (weave (table-of (now (s .entry))) (runs-of starts many from)) ++ drop (n * size) (now (out .entry))
         ⌝ }
 {
     let mut lanes = Lanes {
         left: many,
         frame: starts,
-        arrival: [0u32; 16],
+        arrival: from,
     };
     let tasks = plan.tasks;
     let mut at: usize = 0;

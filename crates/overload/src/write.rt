@@ -77,6 +77,8 @@ pub fn write_list<'a, 'b>(
             index: 0,
         });
     }
-    crate::put::put_all(s, plan, starts, many, n, &mut buffer[place..]);
+    // every task's first request arrives at 0
+    let from = [0u32; 16];
+    crate::put::put_all(s, plan, starts, many, from, n, &mut buffer[place..]);
     Written::Bytes(n * SIZE)
 }

@@ -10,7 +10,7 @@ use Rattle.overload.proofs.put.put_all.Tie as tie
 
 abbrev Inv-loop : tie.InvT-loop
 Inv-loop s plan n out₀ lanes₀ tasks at₀ i₀ out lanes at i =
-    Putting s plan (runs-of (lanes₀ .frame) (lanes₀ .left)) n out₀ out lanes at i
+    Putting s plan (runs-of (lanes₀ .frame) (lanes₀ .left) (lanes₀ .arrival)) n out₀ out lanes at i
 
 abbrev μ-loop : tie.MeasureT-loop
 μ-loop s plan n out₀ lanes₀ tasks at₀ i₀ out lanes at i = n - i

@@ -1,6 +1,7 @@
 -- `overload::write::write_list` meets its contract: it has no loop, and a law of GatheredLaws or PlaceLaws is each of
 -- its three ways out.
 -- Assumes nothing.
+use mathlib.Core.Path.{refl}
 use native.Mathlib.Omega.{arith}
 use borrow.Author.Needs.{needs}
 use Rattle.table.proofs.ReadyLaws.{ready-tasks, ready-few}
@@ -39,14 +40,15 @@ put-all-requires c κs =
     let counted = c .before .before .before in
     let known = counted .before .before .before in
     let args = known .before .args in
-    (search needs, gathered-puts (gathered counted) (args .buffer .now) (args .place) (search needs) (search needs))
+    let all = gathered counted in
+    (search needs, gathered-puts all (args .buffer .now) (args .place) (search needs) refl (search needs))
 
 returns-3 : tie.Need-returns-3
 returns-3 c =
     let put = c .before .before in
     let lent = put .before in
     let counted = lent .before .before .before in
-    list-whole (gathered counted) _ _ (search needs) _ (search needs) (put .put-all .ensures)
+    list-whole (gathered counted) _ _ (search needs) refl _ (search needs) (put .put-all .ensures)
 
 pub write-list-spec : {M : Type 1} → statement M
 write-list-spec =

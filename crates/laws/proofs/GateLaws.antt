@@ -17,6 +17,10 @@ pub only-mono : (test : Bool) (x y : ℕ) → x ≤ y → only test x ≤ only t
 only-mono true x y most = most
 only-mono false x y most = omega arith
 
+pub only-zero : (test : Bool) → only test 0 ≡ 0
+only-zero true = refl
+only-zero false = refl
+
 -- where more than some number comes through, the test passes
 pub only-through : (test : Bool) (x y : ℕ) → y < only test x → test ≡ true
 only-through true x y more = refl

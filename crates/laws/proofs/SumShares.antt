@@ -11,17 +11,19 @@ use Rattle.laws.proofs.SumParts.{sum-raised}
 use Rattle.laws.proofs.SumSwap.{sum-swap}
 
 -- among 0, .., n - 1 each number comes once
-pub sum-one : (n k x : ℕ) → k < n → sum n (λ i. only (eqb k i) x) ≡ x
-sum-one n k x inside =
+pub sum-one : (n k : ℕ) (f : ℕ → ℕ) → k < n → sum n (λ i. only (eqb k i) (f i)) ≡ f k
+sum-one n k f inside =
     omega (
       arith,
-      sum-raised n k x (λ i. 0) (λ i. only (eqb k i) x) inside (rw (eq-eqb k k refl) (omega arith))
+      sum-raised n k (f k) (λ i. 0) (λ i. only (eqb k i) (f i)) inside (rw (eq-eqb k k refl) (omega arith))
           (λ i less other. rw (ne-eqb k i (λ same. other (sym same)))),
       sum-none n (λ i. 0) (λ i less. refl),
     )
 
-pub sum-shares : (n i : ℕ) (kind f : ℕ → ℕ) → ((j : ℕ) → j < i → kind j < n)
-    → sum n (λ k. sum i (λ j. only (eqb (kind j) k) (f j))) ≡ sum i f
+-- what number j adds may go by its kind k
+pub sum-shares : (n i : ℕ) (kind : ℕ → ℕ) (f : ℕ → ℕ → ℕ) → ((j : ℕ) → j < i → kind j < n)
+    → sum n (λ k. sum i (λ j. only (eqb (kind j) k) (f k j))) ≡ sum i (λ j. f (kind j) j)
 sum-shares n i kind f known =
-    sum-swap n i (λ k j. only (eqb (kind j) k) (f j))
-    ∙ sum-cong i (λ j. sum n (λ k. only (eqb (kind j) k) (f j))) f (λ j less. sum-one n (kind j) (f j) (known j less))
+    sum-swap n i (λ k j. only (eqb (kind j) k) (f k j))
+    ∙ sum-cong i (λ j. sum n (λ k. only (eqb (kind j) k) (f k j))) (λ j. f (kind j) j)
+    (λ j less. sum-one n (kind j) (λ k. f k j) (known j less))

@@ -62,11 +62,11 @@ module _ (test : ℕ → Bool) where
 pub tally-once : (n k : ℕ) → tally n (eqb k) ≤ 1
 tally-once n k =
     elim (lt-or-le k n) [
-      | inl below ↦ omega (arith, sum-one n k 1 below)
+      | inl below ↦ omega (arith, sum-one n k (λ j. 1) below)
       | inr past ↦ omega (arith, tally-none (eqb k) n (λ j less. ne-eqb k j (λ same. omega arith)))
     ]
 
 -- of i numbers that are all below n, each is counted with its equals
 pub tally-shares : (n i : ℕ) (f : ℕ → ℕ) → ((j : ℕ) → j < i → f j < n)
     → sum n (λ k. tally i (λ j. eqb (f j) k)) ≡ i
-tally-shares n i f below = sum-shares n i f (λ j. 1) below ∙ tally-all (λ j. true) i (λ j less. refl)
+tally-shares n i f below = sum-shares n i f (λ k j. 1) below ∙ tally-all (λ j. true) i (λ j less. refl)

@@ -13,7 +13,7 @@ use Rattle.model.specs.Jobs.{jobs-of}
 use Rattle.model.specs.Service.{Passes}
 use Rattle.model.specs.VerdictMeaning.{Fits}
 use Rattle.model.proofs.ClosingLaws.{no-overload, is-not-below}
-use Rattle.model.proofs.LegalSums.{legal-due, legal-came}
+use Rattle.model.proofs.LegalSums.{due-ends, legal-due, legal-came}
 
 module _ {table : Table} (good : ProperTable table) {limit window t : ℕ} {m : ℤ}
     (fit : Fits limit table window m t) where
@@ -25,9 +25,7 @@ module _ {table : Table} (good : ProperTable table) {limit window t : ℕ} {m : 
   pub fits-passes : (list : Requests) → Legal table list → Passes (jobs-of table list) window
   fits-passes list legal =
       record {
-        lasts = λ i inside.
-            let known = legal .known i inside in
-            omega (arith, good .proper _ (known .task) .waits (list .request i .frame) (known .frame));
+        lasts = due-ends good legal .after;
         from = fit .window-is .from;
         closes = λ a. omega (arith, legal-came good legal a window, fit .window-is .closes);
         calm = λ a u low high.

@@ -36,7 +36,7 @@ module _ {table : Table} {list : Requests} (legal : Legal table list) (k : ℕ) 
   at-turn : (n : ℕ) → n < many → Turn (is-of list k) (list .count) n (place-of list k n)
   at-turn n inside = nth-turn (is-of list k) (list .count) n inside
 
-  pub turn-task : (n : ℕ) → n < many → turn-of list k n .task ≡ k
+  turn-task : (n : ℕ) → n < many → turn-of list k n .task ≡ k
   turn-task n inside = eqb-true (turn-of list k n .task) k (at-turn n inside .passes)
 
   turn-next : (n : ℕ) → suc n < many → Next list (place-of list k n) (place-of list k (suc n))

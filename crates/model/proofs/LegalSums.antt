@@ -1,109 +1,108 @@
--- What a legal list asks of an interval is at most the sum of the tasks' greatest cyclic sums at its length: one law
--- for any reach, and from it the demand and the work. Each task's requests are a run, whose bound is in RunLaws.
+-- What a legal list asks of an interval is at most the table's demand, or its work, at the interval's length: one law
+-- for the requests of any set of tasks, each from its release until any end of it, and its uses.
 -- Assumes nothing.
-use mathlib.Core.Bool.{_&&_}
-use mathlib.Core.Path.{_≡_, sym, _∙_, ap, ap₂}
-use mathlib.Core.Logic.{inl, inr}
+use mathlib.Core.Bool.{Bool, true, _&&_}
+use mathlib.Core.Path.{ap}
 use Prim.Native.Nat.{ℕ, suc, _+_, _-_, _≤_, _<_}
 use native.Mathlib.Nat.{add-sub-cancel-left}
-use native.Mathlib.Numerals.{add-one}
 use native.Mathlib.Omega.{arith}
 use lib.Dec.{leb}
+use borrow.Author.Tests.{leb-true, le-leb}
 use Rattle.laws.specs.Sums.{sum, only}
-use Rattle.laws.proofs.Cases.{lt-or-le}
-use Rattle.laws.proofs.SumLaws.{sum-zero, sum-cong, sum-mono}
-use Rattle.laws.proofs.SumShares.{sum-shares}
-use Rattle.laws.proofs.NthLaws.{nth-sum}
+use Rattle.laws.proofs.Every.{and-true-left, and-true-right}
+use Rattle.laws.proofs.GateLaws.{only-wider}
+use Rattle.laws.proofs.SumLaws.{sum-mono}
 use Rattle.model.specs.Task.{Table, ProperTable}
-use Rattle.model.specs.Demand.{frame, most, all-demands, all-work}
-use Rattle.model.specs.Run.{asked}
-use Rattle.model.specs.Request.{Request, Requests, of-task, Legal}
-use Rattle.model.specs.Jobs.{jobs-of}
+use Rattle.model.specs.Demand.{most, work, all-demands, all-work}
+use Rattle.model.specs.Request.{Requests, Legal}
+use Rattle.model.specs.Jobs.{Jobs, jobs-of}
 use Rattle.model.specs.Schedule.{due-within}
 use Rattle.model.specs.Service.{every-job, came}
 use Rattle.model.proofs.CyclicLaws.{Moves}
 use Rattle.model.proofs.DemandLaws.{demand-moves, work-moves}
-use Rattle.model.proofs.RunLaws.{asked-most}
-use Rattle.model.proofs.LegalRuns.{is-of, turn-of, first-of, turn-task, turn-frame, first-inside, legal-run}
+use Rattle.model.proofs.LegalShares.{request-lies, request-asks, legal-most}
 
 module _ {table : Table} {list : Requests} (legal : Legal table list) where
-  -- ---- any reach of each task's frames
+  abbrev jobs : Jobs
+  jobs = jobs-of table list
 
-  module _ (reach : ℕ → ℕ → ℕ) (a b : ℕ) where
-    -- what a frame of task k that is requested at this time asks of the interval
-    abbrev one : ℕ → ℕ → ℕ → ℕ
-    one k i at = only (leb a at && leb (at + reach k i) b) (table .task k .E i)
+  -- each request's end is past its release, and no nearer than the reach of its frame
+  pub record Ends (reach : ℕ → ℕ → ℕ) (ends : ℕ → ℕ) : Type 0 where
+    pub after : (i : ℕ) → i < list .count → jobs .release i < ends i
+    pub far : (i : ℕ) → i < list .count
+        → list .request i .arrival + reach (list .request i .task) (list .request i .frame) ≤ ends i
+    pub moves : (k : ℕ) → k < table .tasks → Moves (table .task k) (reach k)
 
-    abbrev asks : Request → ℕ
-    asks r = one (r .task) (r .frame) (r .arrival)
+  module _ {reach : ℕ → ℕ → ℕ} {ends : ℕ → ℕ} (end : Ends reach ends) (set : ℕ → Bool) (a b : ℕ) where
+    -- what request i asks: it is of the set, is released at a or later and ends by b
+    abbrev released : ℕ → ℕ
+    released i = only (set (list .request i .task) && (leb a (jobs .release i) && leb (ends i) b)) (jobs .amount i)
 
-    -- the requests of task k
-    abbrev share : ℕ → ℕ
-    share k = sum (list .count) (λ i. only (is-of list k i) (asks (list .request i)))
+    released-lies : (i : ℕ) → i < list .count → let r = list .request i in
+        released i ≤ request-asks legal reach (λ k. a) b (set (r .task)) (r .task) r
+    released-lies i inside =
+        let r = list .request i in
+        let in-set = set (r .task) in
+        let since = leb a (jobs .release i) in
+        let until = leb (ends i) b in
+        let between = request-lies legal reach (λ k. a) b (r .task) (r .frame) (r .arrival) in
+        only-wider (in-set && (since && until)) (in-set && between) (jobs .amount i) λ passes.
+        let timely = and-true-right in-set (since && until) passes in
+        let ended = leb-true (ends i) b (and-true-right since until timely) in
+        rw (
+          and-true-left in-set (since && until) passes,
+          and-true-left since until timely,
+          le-leb (r .arrival + reach (r .task) (r .frame)) b (omega (arith, end .far i inside)),
+        )
 
-    share-turns : (k : ℕ) → share k ≡ sum (of-task list k (list .count)) (λ n. asks (turn-of list k n))
-    share-turns k = nth-sum (is-of list k) (list .count) (λ i. asks (list .request i))
-
-    share-none : (k : ℕ) → of-task list k (list .count) ≡ 0 → share k ≡ 0
-    share-none k none = share-turns k ∙ ap (λ (m : ℕ). sum m (λ n. asks (turn-of list k n))) none ∙ sum-zero _
-
-    share-asked : (k : ℕ) → let arrive : ℕ → ℕ = λ n. turn-of list k n .arrival in
-        share k ≡ asked (table .task k) (reach k) (first-of list k) (of-task list k (list .count)) arrive a b
-    unfolding asked
-    share-asked k =
-        share-turns k
-        ∙ sum-cong (of-task list k (list .count)) (λ n. asks (turn-of list k n))
-        (λ n. one k (frame (table .task k) (first-of list k) n) (turn-of list k n .arrival))
-        (λ n inside. ap₂ (λ (j i : ℕ). one j i (turn-of list k n .arrival)) (turn-task legal k n inside)
-        (turn-frame legal k n inside))
-
-    share-most : (k : ℕ) → Moves (table .task k) (reach k) → share k ≤ most (table .task k) (reach k) (b - a)
-    share-most k moves =
-        elim (lt-or-le 0 (of-task list k (list .count))) [
-          | inl some ↦
-              omega (
-                arith,
-                share-asked k,
-                asked-most moves a b (of-task list k (list .count)) (first-of list k) (λ n. turn-of list k n .arrival)
-                    (first-inside legal k some) (legal-run legal k),
-              )
-          | inr none ↦ omega (arith, share-none k (omega arith))
-        ]
-
-    legal-most : ((k : ℕ) → k < table .tasks → Moves (table .task k) (reach k))
-        → sum (list .count) (λ i. asks (list .request i))
-        ≤ sum (table .tasks) (λ k. most (table .task k) (reach k) (b - a))
-    legal-most moves =
+    legal-released : sum (list .count) released
+        ≤ sum (table .tasks) (λ k. only (set k) (most (table .task k) (reach k) (b - a)))
+    legal-released =
         omega (
           arith,
-          sum-shares (table .tasks) (list .count) (λ i. list .request i .task) (λ i. asks (list .request i))
-              (λ i inside. legal .known i inside .task),
-          sum-mono (table .tasks) share (λ k. most (table .task k) (reach k) (b - a))
-              (λ k inside. share-most k (moves k inside)),
+          sum-mono (list .count) released _ released-lies,
+          legal-most legal reach (λ k. a) b set (end .moves),
         )
 
 -- ---- the document's two
 
 module _ {table : Table} (good : ProperTable table) {list : Requests} (legal : Legal table list) where
+  -- a request ends when it is due
+  pub due-ends : Ends legal (λ k. table .task k .D) (jobs-of table list .due)
+  due-ends =
+      record {
+        after = λ i inside.
+            let known = legal .known i inside in
+            omega (arith, good .proper _ (known .task) .waits (list .request i .frame) (known .frame));
+        far = λ i inside. omega arith;
+        moves = λ k inside. demand-moves (good .proper k inside);
+      }
+
   pub legal-due : (a b : ℕ) → due-within (jobs-of table list) a b ≤ all-demands table (b - a)
   unfolding due-within all-demands
-  legal-due a b =
-      legal-most legal (λ k. table .task k .D) a b (λ k inside. demand-moves (good .proper k inside))
+  legal-due = legal-released legal due-ends (λ k. true)
 
-  pub legal-came : (a w : ℕ) → came (jobs-of table list) every-job a (a + w) ≤ all-work table w
-  unfolding came all-work
-  legal-came a w =
+  -- or with the tick of its release
+  tick-ends : Ends legal (λ k i. 1) (λ i. suc (jobs-of table list .release i))
+  tick-ends =
+      record {
+        after = λ i inside. omega arith;
+        far = λ i inside. omega arith;
+        moves = λ k inside. work-moves (good .proper k inside);
+      }
+
+  -- the work that a set of tasks brings into w ticks
+  pub legal-came-of : (set : ℕ → Bool) (a w : ℕ)
+      → came (jobs-of table list) (λ i. set (list .request i .task)) a (a + w)
+      ≤ sum (table .tasks) (λ k. only (set k) (work (table .task k) w))
+  unfolding came
+  legal-came-of set a w =
       omega (
         arith,
-        sum-cong (list .count) (λ i. comes i (suc (arrival i))) (λ i. comes i (arrival i + 1))
-            (λ i inside. ap (comes i) (sym (add-one (arrival i)))),
-        legal-most legal (λ k i. 1) a (a + w) (λ k inside. work-moves (good .proper k inside)),
-        ap (all-work table) (add-sub-cancel-left a w),
+        legal-released legal tick-ends set a (a + w),
+        ap (λ (u : ℕ). sum (table .tasks) (λ k. only (set k) (work (table .task k) u))) (add-sub-cancel-left a w),
       )
-    where
-      arrival : ℕ → ℕ
-      arrival i = list .request i .arrival
 
-      -- request i where it comes at a or later and `after` is not past the end
-      comes : ℕ → ℕ → ℕ
-      comes i after = only (leb a (arrival i) && leb after (a + w)) (jobs-of table list .amount i)
+  pub legal-came : (a w : ℕ) → came (jobs-of table list) every-job a (a + w) ≤ all-work table w
+  unfolding all-work
+  legal-came = legal-came-of (λ k. true)

@@ -23,6 +23,7 @@ pub mod WovenLegal
 pub mod WovenSums
 pub mod DueLaws
 pub mod LegalRuns
+pub mod LegalShares
 pub mod LegalSums
 pub mod LegalPasses
 pub mod WovenDue

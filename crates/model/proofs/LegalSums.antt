@@ -5,7 +5,6 @@ use mathlib.Core.Bool.{_&&_}
 use mathlib.Core.Path.{_≡_, sym, _∙_, ap, ap₂}
 use mathlib.Core.Logic.{inl, inr}
 use Prim.Native.Nat.{ℕ, suc, _+_, _-_, _≤_, _<_}
-use native.Mathlib.Nat.{add-sub-cancel-left}
 use native.Mathlib.Numerals.{add-one}
 use native.Mathlib.Omega.{arith}
 use lib.Dec.{leb}
@@ -15,14 +14,15 @@ use Rattle.laws.proofs.SumLaws.{sum-zero, sum-cong, sum-mono}
 use Rattle.laws.proofs.SumShares.{sum-shares}
 use Rattle.laws.proofs.NthLaws.{nth-sum}
 use Rattle.model.specs.Task.{Table, ProperTable}
-use Rattle.model.specs.Demand.{frame, most, all-demands, all-work}
+use Rattle.model.specs.Demand.{frame, most, demand, work, all-demands, all-work}
 use Rattle.model.specs.Run.{asked}
 use Rattle.model.specs.Request.{Request, Requests, of-task, Legal}
 use Rattle.model.specs.Jobs.{jobs-of}
 use Rattle.model.specs.Schedule.{due-within}
 use Rattle.model.specs.Service.{every-job, came}
 use Rattle.model.proofs.CyclicLaws.{Moves}
-use Rattle.model.proofs.DemandLaws.{demand-moves, work-moves}
+use Rattle.model.proofs.DemandLaws.{demand-moves, work-moves, demand-most, work-most}
+use Rattle.model.proofs.AllLaws.{all-work-mono}
 use Rattle.model.proofs.RunLaws.{asked-most}
 use Rattle.model.proofs.LegalRuns.{is-of, turn-of, first-of, turn-task, turn-frame, first-inside, legal-run}
 
@@ -88,7 +88,12 @@ module _ {table : Table} (good : ProperTable table) {list : Requests} (legal : L
   pub legal-due : (a b : ℕ) → due-within (jobs-of table list) a b ≤ all-demands table (b - a)
   unfolding due-within all-demands
   legal-due a b =
-      legal-most legal (λ k. table .task k .D) a b (λ k inside. demand-moves (good .proper k inside))
+      omega (
+        arith,
+        legal-most legal (λ k. table .task k .D) a b (λ k inside. demand-moves (good .proper k inside)),
+        sum-cong (table .tasks) (λ k. demand (table .task k) (b - a))
+            (λ k. most (table .task k) (table .task k .D) (b - a)) (λ k inside. demand-most (table .task k) (b - a)),
+      )
 
   pub legal-came : (a w : ℕ) → came (jobs-of table list) every-job a (a + w) ≤ all-work table w
   unfolding came all-work
@@ -98,7 +103,9 @@ module _ {table : Table} (good : ProperTable table) {list : Requests} (legal : L
         sum-cong (list .count) (λ i. comes i (suc (arrival i))) (λ i. comes i (arrival i + 1))
             (λ i inside. ap (comes i) (sym (add-one (arrival i)))),
         legal-most legal (λ k i. 1) a (a + w) (λ k inside. work-moves (good .proper k inside)),
-        ap (all-work table) (add-sub-cancel-left a w),
+        sum-cong (table .tasks) (λ k. work (table .task k) (a + w - a))
+            (λ k. most (table .task k) (λ i. 1) (a + w - a)) (λ k inside. work-most (table .task k) (a + w - a)),
+        all-work-mono table (a + w - a) w (omega arith),
       )
     where
       arrival : ℕ → ℕ

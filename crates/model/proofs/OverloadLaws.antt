@@ -27,7 +27,7 @@ use Rattle.model.proofs.WovenOne.{woven-left}
 
 module _ {table : Table} (good : ProperTable table) (t : ℕ) where
   pub overload-inside : (k : ℕ) → k < table .tasks → start (table .task k) t < table .task k .count
-  overload-inside k inside = start-right (table .task k) t (good .proper k inside .some) .inside
+  overload-inside k inside = start-right (good .proper k inside) t .inside
 
   -- what the requests of task k ask of the time up to t: its demand
   abbrev share : ℕ → ℕ
@@ -42,7 +42,7 @@ module _ {table : Table} (good : ProperTable table) (t : ℕ) where
       let proper = good .proper k inside in
       earliest-sum task (task .D) s (requests-by task s t) t
       ∙ requests-counted proper s t
-      ∙ start-right task t (proper .some) .gives
+      ∙ start-right proper t .gives
 
   module _ (list : Requests) (woven : Woven table (overload-runs table t) list) where
     pub overload-asks : due-within (jobs-of table list) 0 t ≡ all-demands table t

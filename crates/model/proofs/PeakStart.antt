@@ -25,10 +25,10 @@ unfolding above runs response response-by settles settled-at value higher-share 
 from-the-peak = refl
 
 pub from-the-heaviest : response-by (work above) 3 9 ≡ late 10 2
-unfolding above runs response-by settles settled-at value counted offset frame sum greatest least-from
+unfolding above runs response-by settles settled-at value work counted offset frame sum greatest least-from
 from-the-heaviest = refl
 
 -- the heaviest run of 10 ticks begins at frame 3
 pub heaviest-start : counted above (λ i. 1) 10 3 ≡ work above 10
-unfolding above runs counted offset frame sum greatest
+unfolding above runs work counted offset frame sum greatest
 heaviest-start = refl

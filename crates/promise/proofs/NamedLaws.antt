@@ -9,7 +9,7 @@ use Rattle.laws.specs.Sums.{sum, greatest, tabulate}
 use Rattle.laws.specs.Search.{least-from, first-least, up-to-last}
 use Rattle.laws.specs.Reader.{read-on, read-all}
 use Rattle.laws.proofs.Every.{both-left, both-right, every}
-use Rattle.model.specs.Demand.{frame, offset, counted, lowest, all-demands, all-work}
+use Rattle.model.specs.Demand.{frame, offset, counted, lowest, demand, work, all-demands, all-work}
 use Rattle.model.specs.Verdict.{horizon, closes, overloads, starts, overloaded-at, fits-at}
 use Rattle.model.specs.Weave.{foremost, taken-by, next-at, weave}
 use Rattle.model.specs.Overload.{requests-by, overload-list}
@@ -56,7 +56,7 @@ all-right : T (every (right (λ n. n .bytes) by-walk) named)
 unfolding named A B right by-walk quick by-verdict room-or is-byte every same-answer same-verdict
     same-list same-int
     demand-asked reading-of read-all read-on record-of records-before records-of task-of horizon walk overloads closes
-    overloaded-at fits-at starts lowest all-demands all-work counted offset frame sum greatest tabulate
+    overloaded-at fits-at starts lowest demand work all-demands all-work counted offset frame sum greatest tabulate
     least-from first-least
     B-list same-replay replay-asked check-of entry-of last-arrival last-tick end-of run-whole run-of
     loaded slots-of tick-of first-late first-left next-in pick sooner
@@ -101,7 +101,7 @@ pub cited : Cited
 unfolding A B right by-walk quick by-verdict room-or is-byte every same-answer same-verdict
     same-list same-int
     reading-of read-all read-on record-of records-before records-of task-of horizon walk overloads closes
-    overloaded-at fits-at starts lowest all-demands all-work counted offset frame sum greatest tabulate
+    overloaded-at fits-at starts lowest demand work all-demands all-work counted offset frame sum greatest tabulate
     least-from first-least
     B-list same-replay replay-asked check-of entry-of last-arrival last-tick end-of run-whole run-of
     loaded slots-of tick-of first-late first-left next-in pick sooner

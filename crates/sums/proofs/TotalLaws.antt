@@ -7,7 +7,7 @@ use native.Mathlib.Omega.{arith}
 use Rattle.laws.proofs.Adding.{Adding, adding-room, adding-end}
 use Rattle.model.specs.Task.{Table}
 use Rattle.model.specs.Demand.{all-demands, all-work}
-use Rattle.sums.specs.Sized.{longest, most-by, total-by, Total}
+use Rattle.sums.specs.Sized.{longest, peak-by, total-by, Total}
 
 -- the two conditions are the document's two sums
 pub demands-are : {table : Table} {t r : ℕ} → Total table true t r → r ≡ all-demands table t
@@ -19,7 +19,7 @@ unfolding total-by all-work
 work-is total = total .is
 
 abbrev pub peaks : Table → Bool → ℕ → ℕ → ℕ
-peaks table due t k = most-by due (table .task k) t
+peaks table due t k = peak-by due (table .task k) t
 
 -- they are added in order, and there are sixteen at the most
 pub total-added : {table : Table} {due : Bool} {t so-far k : ℕ}

@@ -2,7 +2,7 @@
 -- Assumes nothing.
 use mathlib.Core.Bool.{false}
 use mathlib.Core.Path.{_∙_, ap}
-use Prim.Native.Nat.{ℕ, _*_, _≤_}
+use Prim.Native.Nat.{ℕ, _≤_}
 use native.Mathlib.Omega.{arith}
 use Rattle.laws.proofs.Adding.{Adding, adding-room, adding-end}
 use Rattle.model.specs.Task.{Task, Table, Proper}
@@ -11,7 +11,7 @@ use Rattle.model.specs.Response.{share-of, higher-share}
 use Rattle.model.proofs.DemandLaws.{work-moves}
 use Rattle.model.proofs.ShareLaws.{peak-lowest}
 use Rattle.sums.specs.declared.peak.Peak.{Peak}
-use Rattle.sums.specs.Sized.{longest, Counted, Peaks}
+use Rattle.sums.specs.Sized.{bound, Counted, Peaks}
 use Rattle.response.specs.Shares.{Share, Shares}
 
 -- ---- one task
@@ -31,9 +31,9 @@ share-counted {task} proper peak {w} sum =
 abbrev pub shares : Table → ℕ → ℕ → ℕ
 shares table w j = share-of (table .task j) w
 
--- they are added in order, and there are fifteen at the most
-pub shares-added : {table : Table} {k w so-far j : ℕ} → Adding (shares table w) (longest * w) k so-far j → k ≤ 15
+-- they are added in order, and there are fewer than sixteen
+pub shares-added : {table : Table} {k w so-far j : ℕ} → Adding (shares table w) (bound w) k so-far j → k ≤ 16
     → k ≤ j → Shares table k w so-far
 unfolding higher-share
 shares-added adding few done =
-    record { is = adding-end adding done; at-most = adding-room adding 15 (omega (arith, adding .within)) }
+    record { is = adding-end adding done; at-most = adding-room adding 16 (omega (arith, adding .within)) }

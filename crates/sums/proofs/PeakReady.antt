@@ -15,7 +15,7 @@ use Rattle.table.specs.declared.frame.Place.{Place}
 use Rattle.table.specs.declared.plan.Plan.{Plan}
 use Rattle.table.proofs.ReadyLaws.{place-task, ready-here, ready-proper}
 use Rattle.sums.specs.declared.peak.Peak.{Peak}
-use Rattle.sums.specs.Sized.{ceiling, reach-by, peak-by, start-by, Stands, Counted, Greatest, Peaks}
+use Rattle.sums.specs.Sized.{far, reach-by, peak-by, start-by, Stands, Counted, Greatest, Peaks}
 
 -- the greatest sum by each condition is the document's demand, or its work
 peak-is : (due : Bool) (task : Task) (t : ℕ) → most task (reach-by due task) t ≡ peak-by due task t
@@ -50,7 +50,7 @@ module _ {s : List ℕ} {plan : Plan} (ready : Ready s plan) (bytes : Bytes s) (
   proper : Proper (table-of s .task k)
   proper = ready-proper ready bytes .proper k (ready-here ready k inside)
 
-  pub task-stands : {place : Place} → Stands-at s k place → (t : ℕ) → t ≤ ceiling
+  pub task-stands : {place : Place} → Stands-at s k place → (t : ℕ) → t ≤ far
       → Stands s (place .first) (place .frames) t
   task-stands stands t within =
       record { inside = stands .inside; proper = subst Proper (place-task stands) proper; within = within }

@@ -18,9 +18,20 @@ use Rattle.sums.specs.declared.peak.Peak.{Peak}
 abbrev pub ceiling : ℕ
 ceiling = 1048576
 
--- the greatest E
+-- the greatest E, and so the greatest D and P
 abbrev pub longest : ℕ
 longest = 65535
+
+-- how far a cyclic sum is counted: to a question's t, and one D or P more
+abbrev pub far : ℕ
+far = ceiling + longest
+
+-- the most that one task asks in t ticks, and that all tasks ask, sixteen at the most: the greatest E in each tick
+abbrev pub bound : ℕ → ℕ
+bound t = longest * t
+
+abbrev pub bound-all : ℕ → ℕ
+bound-all t = 16 * bound t
 
 -- by which condition a frame counts: `due`, its offset plus D is at most t; else its offset is below t
 abbrev pub reach-by : Bool → Task → ℕ → ℕ
@@ -38,11 +49,11 @@ total-by due table t = sum (table .tasks) (λ k. peak-by due (table .task k) t)
 
 -- ---- what is required
 
--- the task of `frames` records from record `first` on, and a time to count to
+-- the task of `frames` records from record `first` on, and how far it is counted
 pub record Stands (s : List ℕ) (first frames t : ℕ) : Type 0 where
   pub inside : (first + frames) * size ≤ length s
   pub proper : Proper (task-of s first frames)
-  pub within : t ≤ ceiling
+  pub within : t ≤ far
 
 -- ---- what is ensured
 
@@ -66,8 +77,8 @@ pub record Peaks (task : Task) (due : Bool) (t : ℕ) (r : Peak) : Type 0 where
   pub sum-is : r .sum ≡ peak-by due task t
   pub start-is : r .start ≡ start-by due task t
   pub inside : r .start < task .count
-  pub at-most : r .sum ≤ longest * t
+  pub at-most : r .sum ≤ bound t
 
 pub record Total (table : Table) (due : Bool) (t r : ℕ) : Type 0 where
   pub is : r ≡ total-by due table t
-  pub at-most : r ≤ 16 * (longest * t)
+  pub at-most : r ≤ bound-all t

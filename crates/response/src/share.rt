@@ -1,6 +1,7 @@
 // What the higher tasks take of a frame's response: the one place that knows how a higher task is counted.
 use table::plan::Plan;
 ghost use Prim.Native.Nat.{_<_, _≤_};
+ghost use Rattle.model.specs.Response.{above-in-table};
 ghost use Rattle.table.specs.Ready.{Ready};
 ghost use Rattle.table.specs.TableOf.{table-of};
 ghost use Rattle.sums.specs.Sized.{ceiling};
@@ -17,10 +18,10 @@ fn share_of(s: &[u8], plan: Plan, k: usize, w: u64) -> u64
     sums::total::count_of(s, plan, k, start, w, false)
 }
 
-// What the tasks above task k take of w ticks together.
+// What the tasks above task k take of w ticks together: in table order, those before it.
 pub fn add_shares(s: &[u8], plan: Plan, k: usize, w: u64) -> u64
     requires { ⌜ Ready (now s) plan × (k < plan .tasks) × (w ≤ ceiling) ⌝ }
-    ensures { λ r. ⌜ Shares (table-of (now (s .entry))) k w r ⌝ }
+    ensures { λ r. ⌜ Shares (table-of (now (s .entry))) (above-in-table k) w r ⌝ }
 {
     let mut sum: u64 = 0;
     let mut j: usize = 0;

@@ -6,7 +6,7 @@ use native.Mathlib.Omega.{arith}
 use borrow.Author.Needs.{needs}
 use Rattle.laws.proofs.Adding.{Adding, adding-none, adding-room, adding-on}
 use Rattle.table.specs.TableOf.{table-of}
-use Rattle.table.proofs.ReadyLaws.{ready-low}
+use Rattle.table.proofs.ReadyLaws.{ready-here, ready-few, ready-low}
 use Rattle.sums.specs.Sized.{bound}
 use Rattle.response.proofs.ShareWalkLaws.{shares, shares-added}
 use Rattle.response.proofs.share.add_shares.Statement.{statement}
@@ -38,8 +38,8 @@ loop-again c =
 returns : tie.Need-returns Inv-loop μ-loop
 returns c =
     let entry = c .before .before .before in
-    let low = ready-low (entry .pre .0) (entry .args .k) (entry .pre .1) in
-    shares-added (c .before .loop .inv) (omega arith) (search needs)
+    let here = ready-here (entry .pre .0) (entry .args .k) (entry .pre .1) in
+    shares-added (c .before .loop .inv) (omega arith) (ready-few (entry .pre .0)) (search needs)
 
 pub add-shares-spec : {M : Type 1} → statement M
 add-shares-spec =

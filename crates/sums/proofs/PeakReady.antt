@@ -18,19 +18,19 @@ use Rattle.sums.specs.declared.peak.Peak.{Peak}
 use Rattle.sums.specs.Sized.{far, reach-by, peak-by, start-by, Stands, Counted, Greatest, Peaks}
 
 -- the greatest sum by each condition is the document's demand, or its work
-peak-is : (due : Bool) (task : Task) (t : ℕ) → most task (reach-by due task) t ≡ peak-by due task t
-peak-is true task t = sym (demand-most task t)
-peak-is false task t = sym (work-most task t)
+peak-by-is : (due : Bool) (task : Task) (t : ℕ) → most task (reach-by due task) t ≡ peak-by due task t
+peak-by-is true task t = sym (demand-most task t)
+peak-by-is false task t = sym (work-most task t)
 
-start-is : (due : Bool) (task : Task) (t : ℕ) → lowest task (reach-by due task) t ≡ start-by due task t
-start-is true task t = refl
-start-is false task t = refl
+start-by-is : (due : Bool) (task : Task) (t : ℕ) → lowest task (reach-by due task) t ≡ start-by due task t
+start-by-is true task t = refl
+start-by-is false task t = refl
 
 greatest-peaks : {due : Bool} {task : Task} {t : ℕ} {r : Peak} → Greatest task due t r → Peaks task due t r
 greatest-peaks {due} {task} {t} most-of =
     record {
-      sum-is = most-of .sum-is ∙ peak-is due task t;
-      start-is = most-of .start-is ∙ start-is due task t;
+      sum-is = most-of .sum-is ∙ peak-by-is due task t;
+      start-is = most-of .start-is ∙ start-by-is due task t;
       inside = most-of .inside;
       at-most = most-of .at-most;
     }

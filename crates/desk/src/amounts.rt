@@ -9,7 +9,7 @@ use table::reader::Reading;
 ghost use mathlib.Core.Path.{_≡_};
 ghost use Rattle.table.specs.TableReader.{reading-of};
 ghost use Rattle.table.specs.declared.reader.Reading.the-variants.{Table};
-ghost use Rattle.sums.specs.Sized.{most-by};
+ghost use Rattle.sums.specs.Sized.{peak-by};
 ghost use Rattle.desk.specs.Questions.{read-asked, one-task, demand-asked, work-asked, margin-asked};
 ghost use Rattle.desk.specs.Flat.{flat-shape, flat-amount, flat-margin};
 
@@ -36,7 +36,7 @@ pub extern "C" fn limpidorsa_read(table: &[u8]) -> Shape
 // Of a table that was read: the demand of one task at t where `due`, else its work in t.
 fn sum_in(table: &[u8], shape: table::reader::Shape, task: u64, t: u64, due: bool) -> Amount
     requires { ⌜ reading-of (now table) ≡ Table shape ⌝ }
-    ensures { λ r. ⌜ r ≡ flat-amount (one-task (most-by due) (now (table .entry)) task t) ⌝ }
+    ensures { λ r. ⌜ r ≡ flat-amount (one-task (peak-by due) (now (table .entry)) task t) ⌝ }
 {
     if shape.tasks as u64 <= task {
         return Amount {
@@ -59,7 +59,7 @@ fn sum_in(table: &[u8], shape: table::reader::Shape, task: u64, t: u64, due: boo
 }
 
 fn ask_sum(table: &[u8], task: u64, t: u64, due: bool) -> Amount
-    ensures { λ r. ⌜ r ≡ flat-amount (one-task (most-by due) (now (table .entry)) task t) ⌝ }
+    ensures { λ r. ⌜ r ≡ flat-amount (one-task (peak-by due) (now (table .entry)) task t) ⌝ }
 {
     let reading = table::reader::read_table(table);
     let Reading::Table(shape) = reading else {

@@ -15,7 +15,7 @@ use Rattle.laws.proofs.SignedLaws.{sub-sign}
 use Rattle.model.specs.Task.{Table, ProperTable}
 use Rattle.model.specs.Demand.{all-demands, all-work, margin}
 use Rattle.model.specs.Verdict.{closes, overloads}
-use Rattle.model.proofs.AllLaws.{all-demands-split, all-demands-zero}
+use Rattle.model.proofs.AllLaws.{all-demands-mono, all-demands-split, all-demands-zero}
 
 -- ---- the tests and their facts
 
@@ -71,10 +71,7 @@ Calm-below table t = (u : ℕ) → u < t → all-demands table u ≤ u
 
 module _ {table : Table} (good : ProperTable table) where
   pub calm-one : Calm-below table 1
-  calm-one u h = omega (arith, all-demands-zero good, ap (all-demands table) (none u h))
-    where
-      none : (u : ℕ) → u < 1 → u ≡ 0
-      none u h = omega arith
+  calm-one u h = omega (arith, all-demands-zero good, all-demands-mono table u 0 (omega arith))
 
   pub calm-more : (t : ℕ) → Calm-below table t → all-demands table t ≤ t → Calm-below table (suc t)
   calm-more t calm here u h =
@@ -87,11 +84,9 @@ module _ {table : Table} (good : ProperTable table) where
       let shorter = calm-from w some closed calm k (t - w) (omega arith) in
       elim (lt-or-le t w) [
         | inl less ↦ calm t less
-        | inr more ↦ omega (arith, ap (all-demands table) (parts more), all-demands-split good w (t - w))
+        | inr more ↦
+            omega (arith, all-demands-mono table t (w + (t - w)) (omega arith), all-demands-split good w (t - w))
       ]
-    where
-      parts : w ≤ t → t ≡ w + (t - w)
-      parts more = omega arith
 
   pub calm-always : (w : ℕ) → 1 ≤ w → all-work table w ≤ w → Calm-below table w → (t : ℕ) → all-demands table t ≤ t
   calm-always w some closed calm t = calm-from w some closed calm t t (le-refl t)

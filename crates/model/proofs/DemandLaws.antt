@@ -1,18 +1,17 @@
--- Laws of one task's demand and work: they never fall, and a longer interval asks no more than its two parts.
+-- Laws of one task's demand and work: nothing else opens the two. They never fall, no time asks nothing, and a longer
+-- interval asks no more than its two parts.
 -- Assumes nothing.
-use mathlib.Core.Path.{_≡_, ap}
-use mathlib.Core.Logic.{inl, inr}
-use Prim.Native.Nat.{ℕ, zero, suc, _+_, _-_, _≤_, _<_}
-use native.Mathlib.Nat.{zero-add, le-refl}
+use mathlib.Core.Path.{_≡_, refl, ap}
+use Prim.Native.Nat.{ℕ, suc, _+_, _≤_}
+use native.Mathlib.Nat.{le-refl}
 use native.Mathlib.Numerals.{add-one}
-use native.Mathlib.Omega.{arith}
 use lib.Dec.{leb, ltb}
 use Rattle.laws.specs.Sums.{sum, only, greatest}
-use Rattle.laws.proofs.Cases.{lt-or-le}
-use Rattle.laws.proofs.SumLaws.{gate, sum-cong, sum-mono, sum-longer, greatest-ge, greatest-le, greatest-cong}
+use Rattle.laws.proofs.SumLaws.{sum-cong, greatest-cong}
 use Rattle.model.specs.Task.{Task, Proper}
-use Rattle.model.specs.Demand.{frame, offset, part, counted, most, work}
-use Rattle.model.proofs.CyclicLaws.{Moves, frame-lt, counted-zero, counted-on}
+use Rattle.model.specs.Demand.{frame, offset, part, counted, most, demand, work}
+use Rattle.model.proofs.CyclicLaws.{Moves}
+use Rattle.model.proofs.ReachLaws.{most-zero, most-mono, most-split}
 
 -- a proper task moves under both reaches
 pub demand-moves : {task : Task} → Proper task → Moves task (task .D)
@@ -32,95 +31,37 @@ counted-below task w s =
 pub work-below : (task : Task) (w : ℕ)
     → work task w ≡ greatest (task .count)
     (λ s. sum (suc w) (λ n. only (ltb (offset task s n) w) (task .E (frame task s n))))
+unfolding work
 work-below task w =
     greatest-cong (task .count) (counted task (λ i. 1) w)
     (λ s. sum (suc w) (λ n. only (ltb (offset task s n) w) (task .E (frame task s n))))
     (λ s l. counted-below task w s)
 
--- ---- one task
+-- ---- each is the greatest sum by its reach
 
--- no start gives more than the greatest
-pub counted-most : (task : Task) (reach : ℕ → ℕ) (t s : ℕ) → s < task .count
-    → counted task reach t s ≤ most task reach t
-counted-most task reach t s inside = greatest-ge (counted task reach t) (task .count) s inside
+pub demand-most : (task : Task) (t : ℕ) → demand task t ≡ most task (task .D) t
+unfolding demand
+demand-most task t = refl
 
--- more time lets no frame out
-pub counted-mono : (task : Task) (reach : ℕ → ℕ) (t u s : ℕ) → t ≤ u → counted task reach t s ≤ counted task reach u s
-unfolding counted
-counted-mono task reach t u s h =
-    omega (
-      arith,
-      sum-mono (suc t) (part task reach t s) (part task reach u s) (λ n l. later n),
-      sum-longer (suc t) (suc u) (part task reach u s) (omega arith),
-    )
-  where
-    later : (n : ℕ) → part task reach t s n ≤ part task reach u s n
-    later n =
-        let due = offset task s n + reach (frame task s n) in
-        let e = task .E (frame task s n) in
-        elim (lt-or-le t due) [
-          | inl out ↦ omega (arith, gate due t e .shut out)
-          | inr fits ↦ omega (arith, gate due t e .most, gate due u e .passes (omega arith))
-        ]
+pub work-most : (task : Task) (w : ℕ) → work task w ≡ most task (λ i. 1) w
+unfolding work
+work-most task w = refl
 
-module _ {task : Task} {reach : ℕ → ℕ} (moves : Moves task reach) where
-  next-lt : (s : ℕ) → frame task s 1 < task .count
-  next-lt s = frame-lt task (moves .some) s 1
+-- ---- all that the searches and the closing window use of a task
 
-  opened : Moves task (λ i. 1)
-  opened = record { some = moves .some; gap = moves .gap; room = λ i h. le-refl 1 }
+pub demand-zero : {task : Task} → Proper task → demand task 0 ≡ 0
+unfolding demand
+demand-zero proper = most-zero (demand-moves proper)
 
-  pub most-zero : most task reach 0 ≡ 0
-  most-zero = omega (
-    arith,
-    greatest-le (counted task reach 0) (task .count) 0
-        (λ s l. omega (arith, counted-zero moves s)),
-  )
+pub demand-mono : (task : Task) (t u : ℕ) → t ≤ u → demand task t ≤ demand task u
+unfolding demand
+demand-mono task = most-mono task (task .D)
 
-  -- the first frame of a window is work in it
-  work-on : (w s : ℕ) → s < task .count → 1 ≤ w
-      → counted task (λ i. 1) w s ≡ task .E s + counted task (λ i. 1) (w - task .P s) (frame task s 1)
-  work-on w s inside some = omega (arith, counted-on opened w s inside, gate 1 w (task .E s) .passes some)
+pub work-mono : (task : Task) (v w : ℕ) → v ≤ w → work task v ≤ work task w
+unfolding work
+work-mono task = most-mono task (λ i. 1)
 
-  split-none : (t s : ℕ) → s < task .count
-      → counted task reach (0 + t) s ≤ counted task (λ i. 1) 0 s + most task reach t
-  split-none t s inside = omega (
-    arith,
-    ap (λ (u : ℕ). counted task reach u s) (zero-add t),
-    counted-most task reach t s inside,
-  )
-
-  -- from frame s: the frames with offset below w are work in w, the others begin anew
-  split-from : (k w t s : ℕ) → w ≤ k → s < task .count
-      → counted task reach (w + t) s ≤ counted task (λ i. 1) w s + most task reach t
-  split-from zero zero t s h inside = split-none t s inside
-  split-from zero (suc w) t s h inside = absurd (omega arith)
-  split-from (suc k) zero t s h inside = split-none t s inside
-  split-from (suc k) (suc w) t s h inside =
-      let next = frame task s 1 in
-      let whole = counted-on moves (suc w + t) s inside in
-      let first = work-on (suc w) s inside (omega arith) in
-      let head = gate (reach s) (suc w + t) (task .E s) .most in
-      let rest = split-from k (suc w - task .P s) t next (omega (arith, moves .gap s inside)) (next-lt s) in
-      elim (lt-or-le (suc w) (task .P s)) [
-        | inl past ↦
-            omega (
-              arith,
-              counted-mono task reach (suc w + t - task .P s) t next (omega arith),
-              counted-most task reach t next (next-lt s),
-            )
-        | inr back ↦ omega (arith, ap (λ (u : ℕ). counted task reach u next) (shorter (task .P s) back))
-      ]
-    where
-      shorter : (p : ℕ) → p ≤ suc w → suc w + t - p ≡ suc w - p + t
-      shorter p h = omega arith
-
-  -- the demand at w + t is at most the work in w and the demand at t
-  pub most-split : (w t : ℕ) → most task reach (w + t) ≤ work task w + most task reach t
-  most-split w t =
-      greatest-le (counted task reach (w + t)) (task .count) (work task w + most task reach t)
-      (λ s inside. omega (
-        arith,
-        split-from w w t s (le-refl w) inside,
-        greatest-ge (counted task (λ i. 1) w) (task .count) s inside,
-      ))
+-- the demand at w + t is at most the work in w and the demand at t
+pub demand-split : {task : Task} → Proper task → (w t : ℕ) → demand task (w + t) ≤ work task w + demand task t
+unfolding demand work
+demand-split proper = most-split (demand-moves proper)

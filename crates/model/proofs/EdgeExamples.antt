@@ -7,7 +7,7 @@ use Rattle.laws.specs.Sums.{sum, greatest}
 use Rattle.laws.specs.Search.{least-from}
 use Rattle.model.specs.Task.{Task, Table}
 use Rattle.model.specs.Demand.{frame, offset, counted}
-use Rattle.model.specs.Response.{Response, value, on-time, late, settles, settled-at, response-by, peak-frame, share-of, higher-share, response}
+use Rattle.model.specs.Response.{Response, value, on-time, late, settles, settled-at, response-by, peak-frame, share-of, share-over, response-over, response}
 
 abbrev pub sporadic : ℕ → ℕ → ℕ → Task
 sporadic e d p = record { count = 1; E = λ i. e; D = λ i. d; P = λ i. p }
@@ -29,6 +29,6 @@ pub record Edges : Type 0 where
   pub grown-past-D : under (sporadic 1 2 2) (sporadic 2 3 9) ≡ late 4 2
 
 pub edges : Edges
-unfolding response response-by settles settled-at value higher-share share-of peak-frame counted offset frame sum
-    greatest least-from
+unfolding response response-over response-by settles settled-at value share-over share-of peak-frame counted offset
+    frame sum greatest least-from
 edges = record { late-after-one = refl; late-at-once = refl; repeated-at-D = refl; grown-past-D = refl }

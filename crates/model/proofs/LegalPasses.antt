@@ -1,9 +1,7 @@
 -- The jobs of every legal list of a table that fits are such as the earliest-deadline machine finishes: no more comes
 -- in a window than it has ticks, and no more is due in an interval.
 -- Assumes nothing.
-use mathlib.Core.Path.{ap}
-use Prim.Native.Nat.{ℕ, _+_, _≤_}
-use native.Mathlib.Nat.{add-sub-cancel-left}
+use Prim.Native.Nat.{ℕ, _+_, _-_, _≤_}
 use native.Mathlib.Omega.{arith}
 use lib.IntN.{ℤ}
 use Rattle.model.specs.Task.{Table, ProperTable}
@@ -12,6 +10,7 @@ use Rattle.model.specs.Request.{Requests, Legal}
 use Rattle.model.specs.Jobs.{jobs-of}
 use Rattle.model.specs.Service.{Passes}
 use Rattle.model.specs.VerdictMeaning.{Fits}
+use Rattle.model.proofs.AllLaws.{all-demands-mono}
 use Rattle.model.proofs.ClosingLaws.{no-overload, is-not-below}
 use Rattle.model.proofs.LegalSums.{due-ends, legal-due, legal-came}
 
@@ -32,7 +31,7 @@ module _ {table : Table} (good : ProperTable table) {limit window t : ℕ} {m : 
             omega (
               arith,
               legal-due good legal a (a + u),
-              ap (all-demands table) (add-sub-cancel-left a u),
+              all-demands-mono table (a + u - a) u (omega arith),
               fits-calm u low high,
             );
       }

@@ -14,7 +14,7 @@ use Rattle.laws.proofs.GateLaws.{only-zero}
 use Rattle.laws.proofs.SumLaws.{sum-zero, sum-none, sum-cong, sum-mono}
 use Rattle.laws.proofs.SumShares.{sum-shares}
 use Rattle.laws.proofs.NthLaws.{nth-sum}
-use Rattle.model.specs.Task.{Table}
+use Rattle.model.specs.Task.{Table, Task-set}
 use Rattle.model.specs.Demand.{frame, most}
 use Rattle.model.specs.Run.{asked}
 use Rattle.model.specs.Request.{Request, Requests, of-task, Legal}
@@ -73,7 +73,7 @@ module _ {table : Table} {list : Requests} (legal : Legal table list) where
         omega (arith, sum-none (list .count) (λ i. only (is-of list k i) 0) (λ i inside. only-zero (is-of list k i)))
 
     -- the requests of a set of tasks
-    pub legal-most : (set : ℕ → Bool) → ((k : ℕ) → k < table .tasks → Moves (table .task k) (reach k))
+    pub legal-most : (set : Task-set) → ((k : ℕ) → k < table .tasks → Moves (table .task k) (reach k))
         → sum (list .count) (λ i. request-asks (set (list .request i .task)) (list .request i .task) (list .request i))
         ≤ sum (table .tasks) (λ k. only (set k) (most (table .task k) (reach k) (b - since k)))
     legal-most set moves =

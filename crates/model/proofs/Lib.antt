@@ -1,4 +1,5 @@
 pub mod CyclicLaws
+pub mod ReachLaws
 pub mod DemandLaws
 pub mod FrameLaws
 pub mod AllLaws

@@ -13,6 +13,7 @@ use Rattle.model.specs.Demand.{frame, counted, demand, work, all-demands
 use Rattle.model.specs.Verdict.{start}
 use Rattle.model.specs.VerdictMeaning.{Starts-at}
 use Rattle.model.proofs.CyclicLaws.{Moves, frame-lt, counted-zero, counted-on}
+use Rattle.model.proofs.DemandLaws.{demand-most, work-most}
 use Rattle.model.proofs.StartLaws.{start-right}
 
 pub record Lone (table : Table) (e d p : ℕ) : Type 0 where
@@ -65,19 +66,21 @@ module _ {table : Table} {e d p : ℕ} (good : ProperTable table) (lone : Lone t
   unfolding all-work
   work-lone w =
       sum-lone (table .tasks) (λ k. work (table .task k) w) (lone .one-task)
+      ∙ work-most lone-task w
       ∙ greatest-lone (lone-task .count) (counted lone-task (λ i. 1) w) (lone .one-frame)
 
   pub demands-lone : (t : ℕ) → all-demands table t ≡ counted lone-task (lone-task .D) t 0
   unfolding all-demands
   demands-lone t =
       sum-lone (table .tasks) (λ k. demand (table .task k) t) (lone .one-task)
+      ∙ demand-most lone-task t
       ∙ greatest-lone (lone-task .count) (counted lone-task (lone-task .D) t) (lone .one-frame)
 
   pub start-lone : (t : ℕ) → Starts-at lone-task t 0
   start-lone t = subst (Starts-at lone-task t) first starts
     where
       starts : Starts-at lone-task t (start lone-task t)
-      starts = start-right lone-task t (lone-proper .some)
+      starts = start-right lone-proper t
 
       first : start lone-task t ≡ 0
       first = omega (arith, starts .inside, lone .one-frame)

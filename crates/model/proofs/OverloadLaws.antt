@@ -20,7 +20,7 @@ use Rattle.model.proofs.WovenDue.{Runs-between, earliest-near, woven-as
 
 module _ {table : Table} (good : ProperTable table) (t : ℕ) where
   pub overload-inside : (k : ℕ) → k < table .tasks → start (table .task k) t < table .task k .count
-  overload-inside k inside = start-right (table .task k) t (good .proper k inside .some) .inside
+  overload-inside k inside = start-right (good .proper k inside) t .inside
 
   -- every task has the t ticks from 0 on
   overload-between : Runs-between table (overload-runs table t) (λ k. t) 0 t
@@ -45,7 +45,7 @@ module _ {table : Table} (good : ProperTable table) (t : ℕ) where
         ∙ sum-cong (table .tasks)
         (λ k. counted (table .task k) (table .task k .D) t (start (table .task k) t))
         (λ k. demand (table .task k) t)
-        (λ k inside. start-right (table .task k) t (good .proper k inside .some) .gives)
+        (λ k inside. start-right (good .proper k inside) t .gives)
 
     pub overload-some : 0 < all-demands table t → 0 < list .count
     overload-some some = due-some (jobs-of table list) 0 t (omega (arith, overload-asks))

@@ -15,7 +15,7 @@ use Rattle.model.specs.Task.{Task}
 use Rattle.model.specs.Demand.{frame, offset, part, counted, most}
 use Rattle.model.specs.Run.{Run, asked}
 use Rattle.model.proofs.CyclicLaws.{Moves, frame-lt, frame-none, frame-on, offset-next, counted-turns, counted-on}
-use Rattle.model.proofs.DemandLaws.{counted-mono, counted-most}
+use Rattle.model.proofs.ReachLaws.{counted-mono, counted-most}
 
 both-most : (x y : Bool) (e : ℕ) → only (x && y) e ≤ only y e
 both-most true y e = le-refl (only y e)

@@ -15,7 +15,8 @@ use Rattle.model.specs.Demand.{frame, offset, counted, lowest}
 use Rattle.model.specs.Response.{peak-frame, share-of}
 use Rattle.model.specs.ResponseMeaning.{Never-falls, Is-peak}
 use Rattle.model.proofs.CyclicLaws.{Moves, counted-zero, counted-on}
-use Rattle.model.proofs.DemandLaws.{counted-below, counted-mono}
+use Rattle.model.proofs.ReachLaws.{counted-mono}
+use Rattle.model.proofs.DemandLaws.{counted-below}
 
 -- ---- the share
 

@@ -11,10 +11,11 @@ use borrow.Author.Tests.{lt-ltb, le-ltb}
 use Rattle.laws.proofs.Cases.{lt-or-le}
 use Rattle.laws.proofs.Fill.{tabulate-length, tabulate-at}
 use Rattle.laws.proofs.PeakLaws.{Peaked, peaked-lowest, peak-of}
-use Rattle.model.specs.Task.{Task, Table, ProperTable}
+use Rattle.model.specs.Task.{Task, Table, Proper, ProperTable}
 use Rattle.model.specs.Demand.{counted, lowest}
 use Rattle.model.specs.Verdict.{start, start-in, starts}
 use Rattle.model.specs.VerdictMeaning.{Starts-at}
+use Rattle.model.proofs.DemandLaws.{demand-most}
 
 -- what a loop over the starts finds is the lowest
 pub lowest-is : (task : Task) (reach : ℕ → ℕ) (t : ℕ) {sum place : ℕ}
@@ -22,12 +23,17 @@ pub lowest-is : (task : Task) (reach : ℕ → ℕ) (t : ℕ) {sum place : ℕ}
 unfolding lowest
 lowest-is task reach t peaked = peaked-lowest peaked
 
-module _ (task : Task) (t : ℕ) (some : 1 ≤ task .count) where
+module _ {task : Task} (proper : Proper task) (t : ℕ) where
   pub start-right : Starts-at task t (start task t)
   start-right =
       let peak = peak-of (counted task (task .D) t) (task .count) in
+      let whole = demand-most task t in
       subst (Starts-at task t) (lowest-is task (task .D) t (peak .1))
-      (record { inside = peak .1 .below some; gives = peak .1 .has some; lowest = peak .1 .lowest })
+      (record {
+        inside = peak .1 .below (proper .some);
+        gives = omega (arith, whole, peak .1 .has (proper .some));
+        lowest = λ i less. omega (arith, whole, peak .1 .lowest i less);
+      })
 
   start-only : (a b : ℕ) → Starts-at task t a → Starts-at task t b → a ≡ b
   start-only a b x y =
@@ -56,7 +62,7 @@ module _ {table : Table} (good : ProperTable table) (t : ℕ) where
   starts-past k h past = starts-at k h ∙ rw (le-ltb k (table .tasks) past)
 
   pub starts-each : (k : ℕ) → k < 16 → k < table .tasks → Starts-at (table .task k) t (getD (starts table t) k 0)
-  starts-each k h inside = rw (starts-inside k h inside) (start-right (table .task k) t (good .proper k inside .some))
+  starts-each k h inside = rw (starts-inside k h inside) (start-right (good .proper k inside) t)
 
   -- a list of sixteen that has these properties is the starts
   pub starts-only : (l : List ℕ) → length l ≡ 16
@@ -68,7 +74,7 @@ module _ {table : Table} (good : ProperTable table) (t : ℕ) where
       same : (k : ℕ) → k < 16 → getD l k 0 ≡ getD (starts table t) k 0
       same k h =
           elim (lt-or-le k (table .tasks)) [
-            | inl inside ↦ start-is (table .task k) t (good .proper k inside .some) (getD l k 0) (each k h inside)
+            | inl inside ↦ start-is (good .proper k inside) t (getD l k 0) (each k h inside)
                 ∙ sym (starts-inside k h inside)
             | inr out ↦ past k h out ∙ sym (starts-past k h out)
           ]

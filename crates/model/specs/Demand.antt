@@ -35,11 +35,11 @@ unfoldable pub lowest : Task → (ℕ → ℕ) → ℕ → ℕ
 lowest task reach t = first-greatest (counted task reach t) (task .count)
 
 -- "Add E of every frame whose offset plus D is at most t. The demand is the greatest such sum over all s."
-abbrev pub demand : Task → ℕ → ℕ
+unfoldable pub demand : Task → ℕ → ℕ
 demand task t = most task (task .D) t
 
 -- "As demand, but add E of frames whose offset is below w": offset + 1 is at most w
-abbrev pub work : Task → ℕ → ℕ
+unfoldable pub work : Task → ℕ → ℕ
 work task w = most task (λ i. 1) w
 
 unfoldable pub all-demands : Table → ℕ → ℕ

@@ -3,9 +3,9 @@
 use mathlib.Core.Bool.{Bool, cond, _||_}
 use Prim.Native.Nat.{ℕ, zero, suc, _+_}
 use lib.Dec.{ltb, eqb}
-use Rattle.laws.specs.Sums.{sum}
+use Rattle.laws.specs.Sums.{sum, only}
 use Rattle.laws.specs.Search.{least-from, place-or, first-greatest}
-use Rattle.model.specs.Task.{Task, Table}
+use Rattle.model.specs.Task.{Task, Table, Task-set}
 use Rattle.model.specs.Demand.{counted}
 
 -- ---- the recurrence, whatever share the higher tasks take
@@ -45,10 +45,27 @@ peak-frame task = first-greatest (task .E) (task .count)
 unfoldable pub share-of : Task → ℕ → ℕ
 share-of task w = counted task (λ i. 1) w (peak-frame task)
 
--- "for each higher task": "Priority is table order, task 0 highest."
-unfoldable pub higher-share : Table → ℕ → ℕ → ℕ
-higher-share table k w = sum k (λ j. share-of (table .task j) w)
+-- "for each higher task": what the tasks of a set take of w ticks together
+unfoldable pub share-over : Table → Task-set → ℕ → ℕ
+share-over table higher w = sum (table .tasks) (λ j. only (higher j) (share-of (table .task j) w))
+
+-- the response of frame i of task k, where these are the higher tasks
+unfoldable pub response-over : Table → Task-set → ℕ → ℕ → Response
+response-over table higher k i = response-by (share-over table higher) (table .task k .E i) (table .task k .D i)
+
+-- ---- who is higher
+
+-- the tasks whose place is before that of task k, where each task has a place
+abbrev pub above-by : (ℕ → ℕ) → ℕ → Task-set
+above-by place k j = ltb (place j) (place k)
+
+-- "Priority is table order, task 0 highest.": a task's place is its number
+abbrev pub above-in-table : ℕ → Task-set
+above-in-table k = above-by (λ j. j) k
+
+abbrev pub higher-share : Table → ℕ → ℕ → ℕ
+higher-share table k = share-over table (above-in-table k)
 
 -- the response of frame i of task k
 unfoldable pub response : Table → ℕ → ℕ → Response
-response table k i = response-by (higher-share table k) (table .task k .E i) (table .task k .D i)
+response table k i = response-over table (above-in-table k) k i

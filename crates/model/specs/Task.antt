@@ -1,5 +1,6 @@
 -- Frames, tasks and tables: document 01, "A table, record by record".
 -- Assumes nothing.
+use mathlib.Core.Bool.{Bool}
 use Prim.Native.Nat.{ℕ, _≤_, _<_}
 
 -- A task by its frames' numbers, from 0 to count - 1, which come round in order.
@@ -29,3 +30,7 @@ pub record ProperTable (table : Table) : Type 0 where
   pub some : 1 ≤ table .tasks
   pub few : table .tasks ≤ 16
   pub proper : (k : ℕ) → k < table .tasks → Proper (table .task k)
+
+-- a set of tasks, by their numbers
+abbrev pub Task-set : Type 0
+Task-set = ℕ → Bool

@@ -9,7 +9,7 @@ use Rattle.laws.specs.Sums.{sum, greatest}
 use Rattle.laws.specs.Search.{least-from, up-to-last}
 use Rattle.laws.specs.Reader.{read-on, read-all}
 use Rattle.laws.proofs.Every.{every}
-use Rattle.model.specs.Demand.{frame, offset, counted, lowest, all-demands}
+use Rattle.model.specs.Demand.{frame, offset, counted, lowest, demand, all-demands}
 use Rattle.model.specs.Request.{last-arrival}
 use Rattle.model.specs.Verdict.{horizon, overloads, first-overload, overloaded-at, verdict}
 use Rattle.model.specs.Weave.{foremost, taken-by, next-at, weave}
@@ -55,7 +55,7 @@ unfolding cases right is-refused gets is-byte every same-answer A B twenty times
     demand-asked work-asked margin-asked verdict-asked response-asked replay-asked overload-asked
     reading-of read-all read-on record-of records-before records-of task-of
     check-of entry-of last-arrival first-above horizon sum least-from frame
-    verdict first-overload overloads overloaded-at all-demands greatest counted offset lowest
+    verdict first-overload overloads overloaded-at demand all-demands greatest counted offset lowest
     placed overload-list weave next-at taken-by foremost requests-by up-to-last bytes-to
 all-right = tt
 

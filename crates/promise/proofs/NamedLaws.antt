@@ -9,11 +9,11 @@ use Rattle.laws.specs.Sums.{sum, greatest, tabulate}
 use Rattle.laws.specs.Search.{least-from, first-least, up-to-last}
 use Rattle.laws.specs.Reader.{read-on, read-all}
 use Rattle.laws.proofs.Every.{both-left, both-right, every}
-use Rattle.model.specs.Demand.{frame, offset, counted, lowest, all-demands, all-work}
+use Rattle.model.specs.Demand.{frame, offset, counted, lowest, demand, work, all-demands, all-work}
 use Rattle.model.specs.Verdict.{horizon, closes, overloads, starts, overloaded-at, fits-at}
 use Rattle.model.specs.Weave.{foremost, taken-by, next-at, weave}
 use Rattle.model.specs.Overload.{requests-by, overload-list}
-use Rattle.model.specs.Response.{value, settles, settled-at, response-by, peak-frame, share-of, higher-share, response}
+use Rattle.model.specs.Response.{value, settles, settled-at, response-by, peak-frame, share-of, share-over, response-over, response}
 use Rattle.model.proofs.WalkLaws.{walk}
 use Rattle.model.specs.Request.{last-arrival}
 use Rattle.model.specs.Machine.{sooner, pick}
@@ -56,17 +56,17 @@ all-right : T (every (right (λ n. n .bytes) by-walk) named)
 unfolding named A B right by-walk quick by-verdict room-or is-byte every same-answer same-verdict
     same-list same-int
     demand-asked reading-of read-all read-on record-of records-before records-of task-of horizon walk overloads closes
-    overloaded-at fits-at starts lowest all-demands all-work counted offset frame sum greatest tabulate
+    overloaded-at fits-at starts lowest demand work all-demands all-work counted offset frame sum greatest tabulate
     least-from first-least
     B-list same-replay replay-asked check-of entry-of last-arrival last-tick end-of run-whole run-of
     loaded slots-of tick-of first-late first-left next-in pick sooner
     K7-task four twenty overload-list weave next-at taken-by foremost requests-by up-to-last bytes-to
-    F same-response response-asked first-above response response-by settles settled-at value higher-share share-of
-    peak-frame
+    F same-response response-asked first-above response response-over response-by settles settled-at value share-over
+    share-of peak-frame
 all-right = tt
 
 goes : values F 5 3 0 ≡ 2 ∷ 8 ∷ 10 ∷ 13 ∷ 14 ∷ []
-unfolding F value higher-share share-of peak-frame record-of records-before records-of task-of counted offset frame sum
+unfolding F value share-over share-of peak-frame record-of records-before records-of task-of counted offset frame sum
     greatest tabulate lowest least-from
 goes = refl
 
@@ -101,13 +101,13 @@ pub cited : Cited
 unfolding A B right by-walk quick by-verdict room-or is-byte every same-answer same-verdict
     same-list same-int
     reading-of read-all read-on record-of records-before records-of task-of horizon walk overloads closes
-    overloaded-at fits-at starts lowest all-demands all-work counted offset frame sum greatest tabulate
+    overloaded-at fits-at starts lowest demand work all-demands all-work counted offset frame sum greatest tabulate
     least-from first-least
     B-list same-replay replay-asked check-of entry-of last-arrival last-tick end-of run-whole run-of
     loaded slots-of tick-of first-late first-left next-in pick sooner
     twenty overload-list weave next-at taken-by foremost requests-by up-to-last bytes-to
-    F same-response response-asked first-above response response-by settles settled-at value higher-share share-of
-    peak-frame
+    F same-response response-asked first-above response response-over response-by settles settled-at value share-over
+    share-of peak-frame
 cited =
     record {
       A-fits = one-said K2 tt;

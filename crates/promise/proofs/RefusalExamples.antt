@@ -9,7 +9,7 @@ use Rattle.laws.specs.Sums.{sum, greatest}
 use Rattle.laws.specs.Search.{least-from}
 use Rattle.laws.specs.Reader.{read-on, read-all}
 use Rattle.model.specs.Demand.{frame, offset, counted}
-use Rattle.model.specs.Response.{value, late, settles, settled-at, response-by, peak-frame, share-of, higher-share, response}
+use Rattle.model.specs.Response.{value, late, settles, settled-at, response-by, peak-frame, share-of, share-over, response-over, response}
 use Rattle.model.specs.Answer.{answered}
 use Rattle.table.specs.Bytes.{record-of}
 use Rattle.table.specs.TableReader.{reading-of}
@@ -47,6 +47,6 @@ B-none = answered-none (every-question B B-bytes (replay B-list) .exact) (cited 
 -- (3,4,9) under (2,4,4) goes 3, 5
 pub late-one : response-asked late-table 1 0 ≡ answered (late 5 1)
 unfolding late-table response-asked reading-of read-all read-on record-of records-before records-of task-of first-above
-    response response-by settles settled-at value higher-share share-of peak-frame counted offset frame sum greatest
-    least-from
+    response response-over response-by settles settled-at value share-over share-of peak-frame counted offset frame sum
+    greatest least-from
 late-one = refl

@@ -6,7 +6,7 @@ use borrow.Author.Needs.{needs}
 use Rattle.model.specs.Verdict.{horizon}
 use Rattle.table.specs.declared.reader.Refusal.{Refusal}
 use Rattle.table.proofs.ReadyLaws.{ready-read}
-use Rattle.sums.specs.Sized.{most-by}
+use Rattle.sums.specs.Sized.{peak-by}
 use Rattle.desk.specs.declared.answers.Amount.{Amount}
 use Rattle.desk.specs.Flat.{flat-amount}
 use Rattle.desk.proofs.AskLaws.{plan-room, plan-tasks, no-such-task, task-too-far, task-answered}
@@ -23,7 +23,7 @@ unfolding flat-amount
 returns c =
     let entry = c .before .before .before in
     ap refuses (c .refuse .ensures)
-    ∙ ap flat-amount (no-such-task _ _ (entry .pre) (most-by (entry .args .due)) (entry .args .task) _ (search needs))
+    ∙ ap flat-amount (no-such-task _ _ (entry .pre) (peak-by (entry .args .due)) (entry .args .task) _ (search needs))
 
 -- t is too far
 returns-2 : tie.Need-returns-2
@@ -31,7 +31,7 @@ unfolding horizon flat-amount
 returns-2 c =
     let is-task = c .before .before in
     let entry = is-task .before .before in
-    let by = most-by (entry .args .due) in
+    let by = peak-by (entry .args .due) in
     ap refuses (c .refuse2 .ensures)
     ∙ ap flat-amount
     (task-too-far _ _ (entry .pre) by (entry .args .task) (entry .args .t) (search needs) (search needs))
@@ -52,7 +52,7 @@ unfolding horizon flat-amount
 returns-3 c =
     let is-near = c .before .before in
     let entry = is-near .before .before .before in
-    let by = most-by (entry .args .due) in
+    let by = peak-by (entry .args .due) in
     let k = entry .args .task in
     let sum-is = c .peak-of .ensures .sum-is in
     ap flat-amount (task-answered _ _ (entry .pre) by k (entry .args .t) (search needs) (search needs) sum-is)

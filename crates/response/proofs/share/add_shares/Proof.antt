@@ -1,19 +1,19 @@
 -- `add_shares` meets its contract. The invariant: the sum is that of the higher tasks so far (`Adding`).
 -- The measure is the number of higher tasks left.
 -- Assumes nothing.
-use Prim.Native.Nat.{_-_, _*_}
+use Prim.Native.Nat.{_-_}
 use native.Mathlib.Omega.{arith}
 use borrow.Author.Needs.{needs}
 use Rattle.laws.proofs.Adding.{Adding, adding-none, adding-room, adding-on}
 use Rattle.table.specs.TableOf.{table-of}
-use Rattle.table.proofs.ReadyLaws.{ready-low}
-use Rattle.sums.specs.Sized.{longest}
+use Rattle.table.proofs.ReadyLaws.{ready-here, ready-few, ready-low}
+use Rattle.sums.specs.Sized.{bound}
 use Rattle.response.proofs.ShareWalkLaws.{shares, shares-added}
 use Rattle.response.proofs.share.add_shares.Statement.{statement}
 use Rattle.response.proofs.share.add_shares.Tie as tie
 
 abbrev Inv-loop : tie.InvT-loop
-Inv-loop s plan k w sum₀ j₀ sum j = Adding (shares (table-of s) w) (longest * w) k sum j
+Inv-loop s plan k w sum₀ j₀ sum j = Adding (shares (table-of s) w) (bound w) k sum j
 
 abbrev μ-loop : tie.MeasureT-loop
 μ-loop s plan k w sum₀ j₀ sum j = k - j
@@ -21,13 +21,13 @@ abbrev μ-loop : tie.MeasureT-loop
 loop-holds : tie.Need-loop-holds Inv-loop μ-loop
 loop-holds c = adding-none _ _ _
 
--- at most fifteen tasks stand above one of sixteen, and w is a deadline at most: far below 2 ^ 64
+-- fewer than sixteen tasks stand above one of sixteen, and w is not past the ceiling: far below 2 ^ 64
 add-sum : tie.Need-add-sum Inv-loop μ-loop
 add-sum c =
     let at-loop = c .before .before in
     let entry = at-loop .before .before in
     let low = ready-low (entry .pre .0) (entry .args .k) (entry .pre .1) in
-    omega (arith, adding-room (at-loop .loop .inv) 15 (omega arith), c .share-of .ensures .at-most)
+    omega (arith, adding-room (at-loop .loop .inv) 16 (omega arith), c .share-of .ensures .at-most)
 
 loop-again : tie.Need-loop-again Inv-loop μ-loop
 loop-again c =
@@ -38,8 +38,8 @@ loop-again c =
 returns : tie.Need-returns Inv-loop μ-loop
 returns c =
     let entry = c .before .before .before in
-    let low = ready-low (entry .pre .0) (entry .args .k) (entry .pre .1) in
-    shares-added (c .before .loop .inv) (omega arith) (search needs)
+    let here = ready-here (entry .pre .0) (entry .args .k) (entry .pre .1) in
+    shares-added (c .before .loop .inv) (omega arith) (ready-few (entry .pre .0)) (search needs)
 
 pub add-shares-spec : {M : Type 1} → statement M
 add-shares-spec =

@@ -1,12 +1,13 @@
 -- Small jobs that meet what the laws about jobs ask: B's list, of which too much is due by 2, two jobs that may run
--- later than they come, and one job of K6's table, which passes with window 1. Jobs are written (release, due, amount).
+-- later than they come, and one job of K6's table, which passes. Jobs are written (release, due, amount).
 -- Assumes nothing.
 use mathlib.Core.Bool.{_&&_}
 use mathlib.Core.Path.{_≡_, refl}
 use Prim.Native.Nat.{ℕ, zero, suc, _+_, _-_, _≤_, _<_}
 use native.Mathlib.Nat.{le-trans}
 use native.Mathlib.Omega.{arith}
-use lib.Dec.{leb, ltb, lit<}
+use lib.Dec.{leb, lit<, lit≤}
+use borrow.Author.Tests.{lt-leb}
 use Rattle.laws.specs.Sums.{sum}
 use Rattle.laws.specs.Search.{at, nowhere}
 use Rattle.laws.proofs.TallyLaws.{tally-most}
@@ -88,15 +89,15 @@ released-first = record { none = refl; released = refl; earlier = refl }
 abbrev pub one-job : Jobs
 one-job = record { count = 1; task = λ k. 0; arrive = λ k. 0; release = λ k. 0; due = λ k. 1; amount = λ k. 1 }
 
-pub one-passes : Passes one-job 1
-unfolding came due-within
-one-passes =
-    record {
-      lasts = λ k inside. lit< tt;
-      from = omega arith;
-      closes = λ a. tally-most (λ k. leb a 0 && ltb 0 (a + 1)) 1;
-      calm = λ a t some within. le-trans (tally-most (λ k. leb a 0 && leb 1 (a + t)) 1) some;
-    }
+-- the interval of no tick asks nothing, and any other at most the one unit
+due-one : (a t : ℕ) → due-within one-job a (a + t) ≤ t
+unfolding due-within sum
+due-one zero zero = lit≤ tt
+due-one (suc a) zero = rw (lt-leb (suc a) 0 (omega arith)) (lit≤ tt)
+due-one a (suc t) = le-trans (tally-most (λ k. leb a 0 && leb 1 (a + suc t)) 1) (omega arith)
+
+pub one-passes : Passes one-job
+one-passes = record { lasts = λ k inside. lit< tt; calm = due-one }
 
 -- so it is done at 1
 pub one-done : left-at one-job (sooner one-job) 1 0 ≡ 0

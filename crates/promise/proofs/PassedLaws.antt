@@ -39,7 +39,7 @@ module _ (s : List ℕ) (bytes : Bytes s) {window t : ℕ} {m : ℤ} (judged : v
     well : WellFormed s
     well = judged-well s judged
 
-    passes : (list : Requests) → Legal (table-of s) list → Passes (jobs-of (table-of s) list) window
+    passes : (list : Requests) → Legal (table-of s) list → Passes (jobs-of (table-of s) list)
     passes = fits-passes (well-proper bytes well) (judged-means s bytes judged)
 
     finishes : (list : Requests) → Legal (table-of s) list → Finishes-each (table-of s) list

@@ -17,6 +17,7 @@ pub mod PickRight
 pub mod PickSame
 pub mod PickPlace
 pub mod MachineLaws
+pub mod StageLaws
 pub mod ReplayLaws
 pub mod JobsSame
 pub mod WovenLegal

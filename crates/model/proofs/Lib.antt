@@ -47,5 +47,6 @@ pub mod OpenLaws
 pub mod BusyLaws
 pub mod MachineService
 pub mod EarliestLaws
+pub mod PassesLaws
 pub mod MissLaws
 pub mod JobExamples

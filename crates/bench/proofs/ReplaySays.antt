@@ -1,16 +1,18 @@
 -- What the replay of a loaded list answers is what document 01 says of the machine, and every run ends by tick 131,070.
 -- Assumes nothing.
 use mathlib.Core.List.{List}
-use mathlib.Core.Path.{_≡_, refl, ap₂, subst, sym, _∙_}
-use Prim.Native.Nat.{ℕ, suc, _<_}
+use mathlib.Core.Path.{_≡_, refl, sym, ap, subst}
+use Prim.Native.Nat.{ℕ, suc}
 use native.Mathlib.Omega.{arith}
 use native.Mathlib.Nat.{le-refl}
 use Rattle.model.specs.Task.{Table, ProperTable}
 use Rattle.model.specs.Request.{last-arrival}
 use Rattle.model.specs.Jobs.{Jobs, jobs-of}
-use Rattle.model.specs.Machine.{sooner}
+use Rattle.model.specs.Machine.{Order, sooner}
 use Rattle.model.specs.Replay.{Replayed, Says, last-tick}
+use Rattle.model.specs.Stage.{tick-in, Stops-rightly}
 use Rattle.model.proofs.ReplayLaws.{says-one}
+use Rattle.model.proofs.StageLaws.{stage-ends}
 use Rattle.requests.specs.Entry.{list-of}
 use Rattle.requests.specs.Accepted.{Accepted}
 use Rattle.requests.proofs.AcceptedLaws.{accepted-legal, accepted-few, accepted-near}
@@ -18,9 +20,8 @@ use Rattle.bench.specs.declared.state.Bench.{Bench}
 use Rattle.bench.specs.declared.state.Outcome.{Outcome}
 use Rattle.bench.specs.declared.state.Outcome.the-variants.{Running, Missed, AllMet}
 use Rattle.bench.specs.Loaded.{loaded, run-whole, answer-of, end-of, replay-of}
-use Rattle.bench.specs.BenchMeaning.{Replayable, Ended}
-use Rattle.bench.proofs.TickLaws.{missed-stopped, met-stopped}
-use Rattle.bench.proofs.MachineRun.{Behind, Stage, runs, missed, met, run-stage}
+use Rattle.bench.specs.BenchMeaning.{Replayable, Stopped-with, Ended}
+use Rattle.bench.proofs.MachineRun.{run-stands}
 
 -- "arrivals 0 to 65,535", and D at most as much: so every list that is accepted can be replayed
 pub accepted-replayable : {table : Table} → ProperTable table → (list : List ℕ) → Accepted table list
@@ -39,38 +40,30 @@ accepted-replayable proper list accepted =
           );
     }
 
+-- the tick that an answer names is that of the bench
+answer-tick : (outcome : Outcome) (t : ℕ) → tick-in (answer-of outcome t) ≡ t
+answer-tick (Missed i) t = refl
+answer-tick AllMet t = refl
+answer-tick Running t = refl
+
+-- a bench that has stopped rightly has ended, by whatever order it goes
+pub ended : {jobs : Jobs} {before : Order} (b : Bench) → Stops-rightly jobs before Stopped-with last-tick b
+    → Ended jobs before b
+ended {jobs} {before} b ends =
+    let answers = ends .stops .answers in
+    record {
+      stopped = ends .stops .stopped;
+      soon = omega (arith, ends .soon, answer-tick (b .outcome) (b .tick), ap tick-in answers);
+      says = subst (Says jobs before) (sym answers) (ends .says);
+    }
+
 module _ (jobs : Jobs) (good : Replayable jobs) where
-  -- what was undone at the last tick was late at it
-  not-behind : Behind jobs (suc last-tick) → ⊥
-  not-behind behind =
-      let undone = behind .worked last-tick (le-refl (suc last-tick)) in
-      behind .on-time last-tick (undone .job) (le-refl (suc last-tick))
-      (record {
-        inside = undone .inside;
-        undone = undone .undone;
-        over = good .in-time (undone .job) (undone .inside);
-      })
-
-  ended-so : (b : Bench) (t : ℕ) (outcome : Outcome) → b .tick ≡ t → b .outcome ≡ outcome → t < suc last-tick
-      → (outcome ≡ Running → ⊥) → Says jobs (sooner jobs) (answer-of outcome t) → Ended jobs b
-  ended-so b t outcome tick-is outcome-is soon stopped says =
-      record {
-        stopped = λ running. stopped (sym outcome-is ∙ running);
-        soon = omega arith;
-        says = subst (Says jobs (sooner jobs)) (sym (ap₂ answer-of outcome-is tick-is)) says;
-      }
-
-  ended : (b : Bench) → Stage jobs (suc last-tick) b → Ended jobs b
-  ended b (runs running holds behind) = absurd (not-behind behind)
-  ended b (missed t i less outcome holds says) =
-      ended-so b t (Missed i) (holds .tick) outcome less (missed-stopped refl) says
-  ended b (met t less outcome holds says) =
-      ended-so b t AllMet (holds .tick) outcome less (met-stopped refl) says
-
   -- "All runs end by tick 131,070."
-  pub run-ends : Ended jobs (run-whole (loaded jobs))
+  pub run-ends : Ended jobs (sooner jobs) (run-whole (loaded jobs))
   unfolding run-whole
-  run-ends = ended (run-whole (loaded jobs)) (run-stage jobs (good .fits) (suc last-tick) (le-refl (suc last-tick)))
+  run-ends =
+      let last = run-stands jobs (good .fits) (suc last-tick) (le-refl (suc last-tick)) in
+      ended (run-whole (loaded jobs)) (stage-ends last-tick (good .in-time) (run-whole (loaded jobs)) last)
 
   pub replay-says : Says jobs (sooner jobs) (replay-of jobs)
   unfolding end-of

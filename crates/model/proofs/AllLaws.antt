@@ -1,5 +1,5 @@
--- Laws of the demands and the work of all tasks: they never fall, a longer interval asks no more than its two parts,
--- and no time asks nothing.
+-- Laws of the demands and the work of all tasks: the demands never fall, a longer interval asks no more than its two
+-- parts, and no time asks nothing.
 -- Assumes nothing.
 use mathlib.Core.Path.{_≡_}
 use Prim.Native.Nat.{ℕ, _+_, _≤_}
@@ -8,19 +8,13 @@ use lib.IntN.{pos}
 use Rattle.laws.proofs.SumLaws.{sum-mono, sum-+, sum-none}
 use Rattle.model.specs.Task.{Table, ProperTable}
 use Rattle.model.specs.Demand.{demand, work, all-demands, all-work, margin}
-use Rattle.model.proofs.DemandLaws.{demand-zero, demand-mono, work-mono, demand-split}
+use Rattle.model.proofs.DemandLaws.{demand-zero, demand-mono, demand-split}
 
 pub all-demands-mono : (table : Table) (t u : ℕ) → t ≤ u → all-demands table t ≤ all-demands table u
 unfolding all-demands
 all-demands-mono table t u order =
     sum-mono (table .tasks) (λ k. demand (table .task k) t) (λ k. demand (table .task k) u)
     (λ k inside. demand-mono (table .task k) t u order)
-
-pub all-work-mono : (table : Table) (v w : ℕ) → v ≤ w → all-work table v ≤ all-work table w
-unfolding all-work
-all-work-mono table v w order =
-    sum-mono (table .tasks) (λ k. work (table .task k) v) (λ k. work (table .task k) w)
-    (λ k inside. work-mono (table .task k) v w order)
 
 pub all-demands-split : {table : Table} → ProperTable table → (w t : ℕ)
     → all-demands table (w + t) ≤ all-work table w + all-demands table t

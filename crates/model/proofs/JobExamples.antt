@@ -1,27 +1,30 @@
 -- Small jobs that meet what the laws about jobs ask: B's list, of which too much is due by 2, two jobs that may run
--- later than they come, and one job of K6's table, which passes with window 1. Jobs are written (release, due, amount).
+-- later than they come, one job of K6's table, which passes, and jobs that pass also with other amounts or in other
+-- places. Jobs are written (release, due, amount).
 -- Assumes nothing.
-use mathlib.Core.Bool.{_&&_}
 use mathlib.Core.Path.{_≡_, refl}
 use Prim.Native.Nat.{ℕ, zero, suc, _+_, _-_, _≤_, _<_}
-use native.Mathlib.Nat.{le-trans}
 use native.Mathlib.Omega.{arith}
-use lib.Dec.{leb, ltb, lit<}
+use lib.Dec.{lit<, lit≤}
 use Rattle.laws.specs.Sums.{sum}
 use Rattle.laws.specs.Search.{at, nowhere}
-use Rattle.laws.proofs.TallyLaws.{tally-most}
-use Rattle.model.specs.Jobs.{Jobs}
+use Rattle.model.specs.Jobs.{Jobs, with-amounts, with-places}
 use Rattle.model.specs.Machine.{sooner, pick, left-at}
 use Rattle.model.specs.Schedule.{units, Unfinished, due-within, Too-much}
 use Rattle.model.specs.Service.{machine-serves, Service, every-job, came, open-work, Busy, Passes}
 use Rattle.model.proofs.OrderLaws.{sooner-strict}
 use Rattle.model.proofs.MachineService.{machine}
 use Rattle.model.proofs.EarliestLaws.{sooner-done}
+use Rattle.model.proofs.PassesLaws.{together-passes, passes-less, passes-placed}
 
 -- ---- B's list: (0,2,2) of task 0 and (0,2,1) of task 1
 
+-- .. and with another deadline
+abbrev pub two-due : ℕ → Jobs
+two-due d = record { count = 2; task = λ k. k; arrive = λ k. 0; release = λ k. 0; due = λ k. d; amount = λ k. 2 - k }
+
 abbrev pub two-jobs : Jobs
-two-jobs = record { count = 2; task = λ k. k; arrive = λ k. 0; release = λ k. 0; due = λ k. 2; amount = λ k. 2 - k }
+two-jobs = two-due 2
 
 abbrev pub two-run : Service two-jobs
 two-run = machine two-jobs (sooner two-jobs) (sooner-strict two-jobs)
@@ -88,16 +91,54 @@ released-first = record { none = refl; released = refl; earlier = refl }
 abbrev pub one-job : Jobs
 one-job = record { count = 1; task = λ k. 0; arrive = λ k. 0; release = λ k. 0; due = λ k. 1; amount = λ k. 1 }
 
-pub one-passes : Passes one-job 1
-unfolding came due-within
-one-passes =
-    record {
-      lasts = λ k inside. lit< tt;
-      from = omega arith;
-      closes = λ a. tally-most (λ k. leb a 0 && ltb 0 (a + 1)) 1;
-      calm = λ a t some within. le-trans (tally-most (λ k. leb a 0 && leb 1 (a + t)) 1) some;
-    }
+one-passes : Passes one-job
+unfolding sum
+one-passes = together-passes one-job 1 (λ k. refl) (λ k. refl) (lit≤ tt) (lit< tt)
 
 -- so it is done at 1
 pub one-done : left-at one-job (sooner one-job) 1 0 ≡ 0
 one-done = sooner-done one-job one-passes 0 (lit< tt)
+
+-- ---- B's two, due at 3, pass: so each is done where both run for one tick only, and where task 1 is placed first
+
+abbrev pub once : Jobs
+once = with-amounts (two-due 3) (λ k. 1)
+
+-- the second runs at 1 and not at 2
+pub record Ends-early : Type 0 where
+  pub first : machine-serves once (sooner once) 0 ≡ at 0
+  pub second : machine-serves once (sooner once) 1 ≡ at 1
+  pub none : machine-serves once (sooner once) 2 ≡ nowhere
+  pub done : (k : ℕ) → k < 2 → left-at once (sooner once) 3 k ≡ 0
+
+abbrev pub turned-round : Jobs
+turned-round = with-places (two-due 3) (λ task. 1 - task)
+
+-- the second goes first
+pub record Placed-first : Type 0 where
+  pub second : machine-serves turned-round (sooner turned-round) 0 ≡ at 1
+  pub first : machine-serves turned-round (sooner turned-round) 1 ≡ at 0
+  pub done : (k : ℕ) → k < 2 → left-at turned-round (sooner turned-round) 3 k ≡ 0
+
+two-pass : Passes (two-due 3)
+unfolding sum
+two-pass = together-passes (two-due 3) 3 (λ k. refl) (λ k. refl) (lit≤ tt) (lit< tt)
+
+pub ends-early : Ends-early
+unfolding left-at pick sooner
+ends-early =
+    record {
+      first = refl;
+      second = refl;
+      none = refl;
+      done = sooner-done once (passes-less (two-due 3) (λ k. 1) (λ k inside. omega arith) two-pass);
+    }
+
+pub placed-first : Placed-first
+unfolding left-at pick sooner
+placed-first =
+    record {
+      second = refl;
+      first = refl;
+      done = sooner-done turned-round (passes-placed (two-due 3) (λ task. 1 - task) two-pass);
+    }

@@ -4,13 +4,12 @@
 use mathlib.Core.Bool.{true, _&&_}
 use mathlib.Core.Path.{_≡_, ap}
 use Prim.Native.Nat.{ℕ, suc, _+_, _-_, _≤_, _<_}
-use native.Mathlib.Nat.{add-sub-cancel-left}
 use native.Mathlib.Omega.{arith}
 use lib.Dec.{leb}
 use borrow.Author.Tests.{leb-true, le-leb}
 use Rattle.laws.specs.Sums.{sum, only}
 use Rattle.laws.proofs.Every.{and-true-left, and-true-right}
-use Rattle.laws.proofs.GateLaws.{only-wider}
+use Rattle.laws.proofs.GateLaws.{only-wider, only-mono}
 use Rattle.laws.proofs.SumLaws.{sum-cong, sum-mono}
 use Rattle.model.specs.Task.{Table, ProperTable, Task-set}
 use Rattle.model.specs.Demand.{most, demand, work, all-demands, all-work}
@@ -19,7 +18,7 @@ use Rattle.model.specs.Jobs.{Jobs, jobs-of}
 use Rattle.model.specs.Schedule.{due-within}
 use Rattle.model.specs.Service.{every-job, came}
 use Rattle.model.proofs.CyclicLaws.{Moves}
-use Rattle.model.proofs.DemandLaws.{demand-moves, work-moves, demand-most, work-most}
+use Rattle.model.proofs.DemandLaws.{demand-moves, work-moves, demand-most, work-most, work-mono}
 use Rattle.model.proofs.LegalShares.{request-lies, request-asks, legal-most}
 
 module _ {table : Table} {list : Requests} (legal : Legal table list) where
@@ -106,7 +105,9 @@ module _ {table : Table} (good : ProperTable table) {list : Requests} (legal : L
       omega (
         arith,
         legal-released legal tick-ends set a (a + w),
-        ap (λ (u : ℕ). sum (table .tasks) (λ k. only (set k) (work (table .task k) u))) (add-sub-cancel-left a w),
+        sum-mono (table .tasks) (λ k. only (set k) (work (table .task k) (a + w - a)))
+            (λ k. only (set k) (work (table .task k) w))
+            (λ k inside. only-mono (set k) _ _ (work-mono (table .task k) (a + w - a) w (omega arith))),
       )
 
   pub legal-came : (a w : ℕ) → came (jobs-of table list) every-job a (a + w) ≤ all-work table w

@@ -18,6 +18,7 @@ pub mod PickRight
 pub mod PickSame
 pub mod PickPlace
 pub mod MachineLaws
+pub mod StageLaws
 pub mod ReplayLaws
 pub mod JobsSame
 pub mod WovenLegal
@@ -49,5 +50,6 @@ pub mod OpenLaws
 pub mod BusyLaws
 pub mod MachineService
 pub mod EarliestLaws
+pub mod PassesLaws
 pub mod MissLaws
 pub mod JobExamples

@@ -25,3 +25,29 @@ jobs-of table list =
       due = λ k. list .request k .arrival + table .task (list .request k .task) .D (list .request k .frame);
       amount = λ k. table .task (list .request k .task) .E (list .request k .frame);
     }
+
+-- ---- the same jobs otherwise
+
+-- with other amounts
+abbrev pub with-amounts : Jobs → (ℕ → ℕ) → Jobs
+with-amounts jobs amount =
+    record {
+      count = jobs .count;
+      task = jobs .task;
+      arrive = jobs .arrive;
+      release = jobs .release;
+      due = jobs .due;
+      amount = amount;
+    }
+
+-- with the place of its task for each one's task: an order that goes by the task goes by the place
+abbrev pub with-places : Jobs → (ℕ → ℕ) → Jobs
+with-places jobs place =
+    record {
+      count = jobs .count;
+      task = λ k. place (jobs .task k);
+      arrive = jobs .arrive;
+      release = jobs .release;
+      due = jobs .due;
+      amount = jobs .amount;
+    }

@@ -9,6 +9,7 @@ pub mod Jobs
 pub mod Machine
 pub mod Tick
 pub mod Replay
+pub mod Stage
 pub mod Weave
 pub mod Overload
 pub mod Schedule

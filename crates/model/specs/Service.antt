@@ -76,10 +76,7 @@ pub record Busy {jobs : Jobs} (service : Service jobs) (class : Class) (d : ℕ)
 
 -- ---- what jobs must keep to, that the earliest-deadline machine finishes them all
 
-pub record Passes (jobs : Jobs) (window : ℕ) : Type 0 where
+pub record Passes (jobs : Jobs) : Type 0 where
   pub lasts : (k : ℕ) → k < jobs .count → jobs .release k < jobs .due k
-  pub from : 1 ≤ window
-  -- no more arrives in any window than it has ticks
-  pub closes : (a : ℕ) → came jobs every-job a (a + window) ≤ window
-  -- nor is more due in any interval up to it
-  pub calm : (a t : ℕ) → 1 ≤ t → t ≤ window → due-within jobs a (a + t) ≤ t
+  -- no more is due in any interval than it has ticks
+  pub calm : (a t : ℕ) → due-within jobs a (a + t) ≤ t

@@ -19,7 +19,7 @@ use Rattle.promise.proofs.EveryNumbered.{numbers-one}
 use Rattle.promise.proofs.FormsKept.{shape-kept, amount-kept, margin-kept, window-kept, verdict-kept, response-kept, size-kept, written-kept, listed-kept, loading-kept, ending-kept}
 use Rattle.promise.proofs.EveryExact.{Told, by-order, by-list}
 use Rattle.promise.proofs.SameLaws as same
-use Rattle.promise.proofs.QuickLaws.{Quick, as-said, verdict-quick, size-quick, overload-quick}
+use Rattle.promise.proofs.QuickLaws.{Quick, as-said, verdict-quick, size-quick, overload-quick, replay-quick}
 use Rattle.promise.proofs.OneAnswerLaws.{one-of}
 
 module _ (s : List ℕ) (bytes : Bytes s) where
@@ -55,7 +55,7 @@ quick s overload-size = size-quick s
 quick s (overload buffer place) = overload-quick s buffer place
 quick s (list l) = as-said s (row s (list l)) same.numbers refl
 quick s (load l) = as-said s (row s (load l)) same.unnamed refl
-quick s (replay l) = as-said s (row s (replay l)) same.replays refl
+quick s (replay l) = replay-quick s l
 
 module _ (κ ℓ : Lft) (s other : Slice) where
   -- a return tells what the answer is, and mostly that nothing is lent; last a return that the contract allows

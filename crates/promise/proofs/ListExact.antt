@@ -73,8 +73,8 @@ module _ {A : Type 0} (ask : Table → Requests → A) (s list : List ℕ) where
 
 module _ (s : List ℕ) (bytes : Bytes s) (list : List ℕ) where
   -- "All runs end by tick 131,070": the bench that is loaded with a good list stops by then, and rightly
-  pub load-ends : Both-good s list → Ended (jobs-of (table-of s) (list-of list))
-      (run-whole (loads (table-of s) (list-of list) .bench))
+  pub load-ends : Both-good s list → let jobs = jobs-of (table-of s) (list-of list) in
+      Ended jobs (sooner jobs) (run-whole (loads (table-of s) (list-of list) .bench))
   load-ends good =
       run-ends (jobs-of (table-of s) (list-of list))
       (accepted-replayable (well-proper bytes (good .table-good)) list (good .list-good))

@@ -1,5 +1,6 @@
 -- Each named number is what the rules give: one computed test of the whole table, and one law that turns it into that.
--- The verdict is computed by the walk that stops at the closing window, and carried over by its law.
+-- The verdict is computed by the walk that stops at the closing window, a replay by the run that stops with the bench,
+-- and both are carried over by their laws.
 -- Assumes nothing.
 use mathlib.Core.Bool.{Bool, _&&_}
 use mathlib.Core.Path.{_≡_, refl, sym, _∙_, ap}
@@ -23,11 +24,11 @@ use Rattle.table.specs.TableReader.{reading-of}
 use Rattle.table.specs.TableOf.{records-before, records-of, task-of}
 use Rattle.requests.specs.Entry.{entry-of, bytes-to}
 use Rattle.requests.specs.ListReader.{check-of}
-use Rattle.bench.specs.Rule.{first-late, first-left, next-in, tick-of, run-of}
-use Rattle.bench.specs.Loaded.{slots-of, loaded, run-whole, end-of}
+use Rattle.bench.specs.Rule.{first-late, first-left, next-in, tick-of}
+use Rattle.bench.specs.Loaded.{slots-of, loaded}
+use Rattle.bench.proofs.SwiftRun.{run-stops, replay-stops}
 use Rattle.response.specs.Deadlines.{first-above}
 use Rattle.desk.specs.Questions.{demand-asked, response-asked}
-use Rattle.desk.specs.ListQuestions.{replay-asked}
 use Rattle.promise.specs.Tables.{A, B, B-list, F, K7-task, four, twenty}
 use Rattle.promise.specs.Named.{Named, Is-said, named, values, Named-right, K2, K4, K4-list, K4-place-2, K4-place-5, K5, K6, K8-task-3}
 use Rattle.promise.proofs.SameLaws.{same-int, same-list, same-list-is, same-verdict, same-replay, same-response, same-answer, same-answer-is}
@@ -58,7 +59,7 @@ unfolding named A B right by-walk quick by-verdict room-or is-byte every same-an
     demand-asked reading-of read-all read-on record-of records-before records-of task-of horizon walk overloads closes
     overloaded-at fits-at starts lowest demand work all-demands all-work counted offset frame sum greatest tabulate
     least-from first-least
-    B-list same-replay replay-asked check-of entry-of last-arrival last-tick end-of run-whole run-of
+    B-list same-replay check-of entry-of last-arrival last-tick replay-stops run-stops
     loaded slots-of tick-of first-late first-left next-in pick sooner
     K7-task four twenty overload-list weave next-at taken-by foremost requests-by up-to-last bytes-to
     F same-response response-asked first-above response response-over response-by settles settled-at value share-over
@@ -103,7 +104,7 @@ unfolding A B right by-walk quick by-verdict room-or is-byte every same-answer s
     reading-of read-all read-on record-of records-before records-of task-of horizon walk overloads closes
     overloaded-at fits-at starts lowest demand work all-demands all-work counted offset frame sum greatest tabulate
     least-from first-least
-    B-list same-replay replay-asked check-of entry-of last-arrival last-tick end-of run-whole run-of
+    B-list same-replay check-of entry-of last-arrival last-tick replay-stops run-stops
     loaded slots-of tick-of first-late first-left next-in pick sooner
     twenty overload-list weave next-at taken-by foremost requests-by up-to-last bytes-to
     F same-response response-asked first-above response response-over response-by settles settled-at value share-over

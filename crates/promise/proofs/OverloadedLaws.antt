@@ -14,6 +14,7 @@ use Rattle.model.specs.Schedule.{Too-much}
 use Rattle.model.specs.Answer.{answered}
 use Rattle.model.proofs.OverloadVerdict.{verdict-over}
 use Rattle.model.proofs.ScheduleLaws.{no-schedule}
+use Rattle.model.proofs.OrderLaws.{sooner-strict}
 use Rattle.model.proofs.MissLaws.{too-much-misses}
 use Rattle.table.specs.Bytes as Table
 use Rattle.table.specs.TableOf.{table-of}
@@ -75,7 +76,8 @@ module _ (s : List ℕ) (bytes : Table.Bytes s) {t : ℕ} {m : ℤ} {starts : Li
       which : (r : Replayed) → replay-asked s list ≡ answered r → Replays-missed s list
       which (missed tick index) is = record { tick = tick; index = index; is = is }
       which (all-met tick) is =
-          absurd (too-much-misses jobs 0 t too-much tick (replay-means s bytes list (all-met tick) is))
+          absurd
+          (too-much-misses jobs (sooner-strict jobs) 0 t too-much tick (replay-means s bytes list (all-met tick) is))
 
   pub overloaded-shown : Overload-shown s t
   overloaded-shown =

@@ -1,7 +1,7 @@
 -- What *passed* promises is about something: A fits; one list of A for every length, with arrivals past every limit, is
 -- legal; and the bench accepts the bytes of three requests. What the promise then says of them.
 -- Assumes nothing.
-use mathlib.Core.Path.{_≡_, refl, sym}
+use mathlib.Core.Path.{_≡_, refl, sym, _∙_}
 use mathlib.Core.Logic.{inl, inr}
 use Prim.Native.Nat.{ℕ, suc, _≤_}
 use native.Mathlib.Nat.{le-refl}
@@ -26,15 +26,17 @@ use Rattle.table.proofs.TaskLaws.{well-proper}
 use Rattle.requests.specs.Entry.{entry-of}
 use Rattle.requests.specs.ListReader.{check-of}
 use Rattle.requests.specs.Accepted.{Accepted}
-use Rattle.bench.specs.Rule.{first-late, first-left, next-in, tick-of, run-of}
-use Rattle.bench.specs.Loaded.{slots-of, loaded, run-whole, end-of}
-use Rattle.desk.specs.ListQuestions.{replays, replay-asked}
+use Rattle.bench.specs.Rule.{first-late, first-left, next-in, tick-of}
+use Rattle.bench.specs.Loaded.{slots-of, loaded}
+use Rattle.bench.proofs.SwiftRun.{run-stops, replay-stops}
+use Rattle.desk.specs.ListQuestions.{on-list, replays, replay-asked}
 use Rattle.promise.specs.Tables.{A}
 use Rattle.promise.specs.Examples.{A-task, A-round, A-list}
 use Rattle.promise.specs.Promises.{Finishes-each, Passed}
 use Rattle.promise.proofs.NamedLaws.{A-bytes, cited}
 use Rattle.promise.proofs.JudgedLaws.{judged-well}
 use Rattle.promise.proofs.ListExact.{answered-good}
+use Rattle.promise.proofs.QuickLaws.{stopping, replay-stopping}
 use Rattle.promise.proofs.PassedLaws.{passed}
 
 A-passed : Passed A
@@ -74,11 +76,14 @@ A-finishes n = A-passed .finishes (A-round n) (A-legal n)
 -- ---- bytes: the first three of these requests
 
 -- they are a list of A, and all are met: the last unit is given in tick 9
-pub A-replayed : replay-asked A A-list ≡ answered (all-met 10)
-unfolding A A-list replay-asked reading-of read-all read-on record-of records-before records-of task-of check-of
-    entry-of last-arrival last-tick frame sum tabulate least-from end-of run-whole run-of loaded slots-of tick-of
+A-stopping : on-list A A-list stopping ≡ answered (all-met 10)
+unfolding A A-list reading-of read-all read-on record-of records-before records-of task-of check-of
+    entry-of last-arrival last-tick frame sum tabulate least-from replay-stops run-stops loaded slots-of tick-of
     first-late first-left next-in pick sooner
-A-replayed = refl
+A-stopping = refl
+
+pub A-replayed : replay-asked A A-list ≡ answered (all-met 10)
+A-replayed = sym (replay-stopping A A-list) ∙ A-stopping
 
 pub A-accepted : Accepted (table-of A) A-list
 unfolding replay-asked

@@ -8,6 +8,7 @@ use lib.IntN.{ℤ}
 use Rattle.model.specs.Verdict.{fits}
 use Rattle.model.specs.Request.{Requests, Legal}
 use Rattle.model.specs.Jobs.{jobs-of}
+use Rattle.model.specs.Machine.{sooner}
 use Rattle.model.specs.Replay.{Replayed, missed, all-met}
 use Rattle.model.specs.Service.{Passes}
 use Rattle.model.specs.Answer.{answered}
@@ -39,7 +40,7 @@ module _ (s : List ℕ) (bytes : Bytes s) {window t : ℕ} {m : ℤ} (judged : v
     well : WellFormed s
     well = judged-well s judged
 
-    passes : (list : Requests) → Legal (table-of s) list → Passes (jobs-of (table-of s) list) window
+    passes : (list : Requests) → Legal (table-of s) list → Passes (jobs-of (table-of s) list)
     passes = fits-passes (well-proper bytes well) (judged-means s bytes judged)
 
     finishes : (list : Requests) → Legal (table-of s) list → Finishes-each (table-of s) list
@@ -51,9 +52,10 @@ module _ (s : List ℕ) (bytes : Bytes s) {window t : ℕ} {m : ℤ} (judged : v
         which : (r : Replayed) → replay-asked s list ≡ answered r → Replays-met s list
         which (all-met tick) is = record { tick = tick; is = is }
         which (missed tick index) is =
+            let jobs = jobs-of (table-of s) (list-of list) in
             absurd
-            (done-not-missed (jobs-of (table-of s) (list-of list)) (finishes (list-of list) (accepted-legal accepted))
-            tick index (replay-means s bytes list (missed tick index) is))
+            (done-not-missed jobs (sooner jobs) (finishes (list-of list) (accepted-legal accepted)) tick index
+            (replay-means s bytes list (missed tick index) is))
 
     pub passed : Passed s
     passed =

@@ -1,23 +1,28 @@
 -- What is said to a question, as it is computed where a number is named: the verdict by the walk that stops at the
--- closing window, carried over by its law; all else as it stands.
+-- closing window, the replay by the run that stops with the bench, each carried over by its law; all else as it stands.
 -- Assumes nothing.
 use mathlib.Core.Bool.{cond}
-use mathlib.Core.Path.{_≡_, refl, _∙_}
+use mathlib.Core.Path.{_≡_, refl, _∙_, ap, fun-ext}
 use mathlib.Core.List.{List, []}
 use Prim.Native.Nat.{ℕ}
 use lib.ListN.{length}
 use Rattle.model.specs.Task.{Table}
 use Rattle.model.specs.Verdict.{horizon, Verdict, verdict}
+use Rattle.model.specs.Request.{Requests}
+use Rattle.model.specs.Jobs.{jobs-of}
+use Rattle.model.specs.Replay.{Replayed}
 use Rattle.model.specs.Answer.{Answer, answered, refused}
 use Rattle.model.proofs.WalkLaws.{walk, walk-is}
 use Rattle.table.specs.Bytes.{Bytes}
 use Rattle.table.proofs.TaskLaws.{well-proper}
+use Rattle.bench.proofs.SwiftRun.{replay-stops, replay-stops-is}
 use Rattle.overload.specs.Place.{no-room, buffer-after}
 use Rattle.desk.specs.Orders.{list-at, is-calm, t-in}
 use Rattle.desk.specs.Questions.{on-table, verdict-asked, size-asked, overload-asked}
+use Rattle.desk.specs.ListQuestions.{on-list, replay-asked}
 use Rattle.promise.specs.Asked as Ask
 use Rattle.promise.specs.Asked.{Row, row}
-use Rattle.promise.proofs.SameLaws.{Test, numbers, lists, verdicts}
+use Rattle.promise.proofs.SameLaws.{Test, numbers, lists, verdicts, replays}
 use Rattle.promise.proofs.TableLaws.{table-refused, table-asked, table-told}
 
 pub record Quick (s : List ℕ) (r : Row) : Type 0 where
@@ -104,3 +109,23 @@ module _ (s : List ℕ) where
         said-is = overload-walked buffer place;
         leaves-is = refl;
       }
+
+-- ---- what is asked of a replay
+
+abbrev pub stopping : Table → Requests → Replayed
+stopping table requests = replay-stops (jobs-of table requests)
+
+pub replay-stopping : (s list : List ℕ) → on-list s list stopping ≡ replay-asked s list
+unfolding replay-asked
+replay-stopping s list =
+    ap (on-list s list) (fun-ext (λ table. fun-ext (λ requests. replay-stops-is (jobs-of table requests))))
+
+abbrev pub replay-quick : (s list : List ℕ) → Quick s (row s (Ask.replay list))
+replay-quick s list =
+    record {
+      said = on-list s list stopping;
+      leaves = λ said. [];
+      test = replays;
+      said-is = λ bytes. replay-stopping s list;
+      leaves-is = refl;
+    }

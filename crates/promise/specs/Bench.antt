@@ -4,6 +4,7 @@ use mathlib.Core.Path.{_≡_}
 use mathlib.Core.List.{List}
 use Prim.Native.Nat.{ℕ, suc, _≤_}
 use Rattle.model.specs.Jobs.{jobs-of}
+use Rattle.model.specs.Machine.{sooner}
 use Rattle.model.specs.Replay.{last-tick}
 use Rattle.model.specs.Answer.{answered}
 use Rattle.table.specs.Bytes.{records}
@@ -32,6 +33,7 @@ pub record Loaded-rightly (s list : List ℕ) : Type 0 where
   pub is : load-asked s list ≡ answered (record { records = records list; bench = bench })
   -- after n ticks, of the 131,071 that a run may have, while it runs it holds what the machine has left
   pub holds : (n : ℕ) → n ≤ suc last-tick → run-of n bench .outcome ≡ Running
-      → Holds (jobs-of (table-of s) (list-of list)) n (run-of n bench)
+      → let jobs = jobs-of (table-of s) (list-of list) in
+      Holds jobs (sooner jobs) n (run-of n bench)
   -- "All runs end by tick 131,070", and say of the machine what the document says
-  pub ends : Ended (jobs-of (table-of s) (list-of list)) (run-whole bench)
+  pub ends : let jobs = jobs-of (table-of s) (list-of list) in Ended jobs (sooner jobs) (run-whole bench)

@@ -19,7 +19,7 @@ use Rattle.model.specs.Schedule.{Schedule, Unfinished}
 use Rattle.model.specs.Service.{machine-serves}
 use Rattle.model.specs.Answer.{answered}
 use Rattle.model.proofs.EdgeExamples as Edge
-use Rattle.model.proofs.JobExamples.{Too-many, Released-first, one-job}
+use Rattle.model.proofs.JobExamples.{Too-many, Released-first, one-job, Ends-early, Placed-first}
 use Rattle.model.proofs.PeakStart.{above}
 use Rattle.table.specs.TableOf.{table-of}
 use Rattle.requests.specs.Entry.{list-of}
@@ -126,3 +126,5 @@ pub record Examples : Type 0 where
   pub too-many : Too-many
   pub released-first : Released-first
   pub one-done : left-at one-job (sooner one-job) 1 0 ≡ 0
+  pub ends-early : Ends-early
+  pub placed-first : Placed-first

@@ -20,11 +20,11 @@ use Rattle.model.proofs.DueLaws.{run-near}
 use Rattle.model.proofs.OverloadLaws.{overload-inside}
 use Rattle.model.proofs.WeaveLaws.{weave-count}
 use Rattle.model.proofs.WeaveSame.{Alike, weave-same}
-use Rattle.table.specs.Bytes.{Bytes, size}
+use Rattle.table.specs.Bytes.{Bytes}
 use Rattle.table.specs.TableOf.{table-of}
 use Rattle.table.specs.declared.plan.Plan.{Plan}
 use Rattle.table.proofs.ReadyLaws.{ready-tasks, ready-few, ready-proper}
-use Rattle.requests.specs.Entry.{bytes-of}
+use Rattle.requests.specs.Entry.{entry-size, bytes-of}
 use Rattle.requests.proofs.BytesLaws.{bytes-length, bytes-same}
 use Rattle.overload.specs.declared.write.Written.the-variants as written
 use Rattle.overload.specs.Counts.{Asked, many-in, counts}
@@ -73,7 +73,7 @@ module _ {s : List ℕ} {plan : Plan} {first : List ℕ} {t : ℕ} {many : List 
       ∙ ap (λ (m : ℕ). sum m (λ k. getD many k 0)) (ready-tasks (gathered .asked .ready))
       ∙ sym (weave-count (table-of s) (runs-of first many))
 
-  pub gathered-long : length (bytes-of (overload-list (table-of s) t)) ≡ n * size
+  pub gathered-long : length (bytes-of (overload-list (table-of s) t)) ≡ n * entry-size
   gathered-long =
       let list = overload-list (table-of s) t in
       omega (arith, bytes-length list (list .count), gathered-count, gathered-list .count-is)
@@ -81,7 +81,7 @@ module _ {s : List ℕ} {plan : Plan} {first : List ℕ} {t : ℕ} {many : List 
   -- ---- what the record writer asks, and the ways out
 
   module _ (buffer : List ℕ) (place : ℕ) (reached : place ≤ length buffer) where
-    pub gathered-puts : n * size ≤ length buffer - place →
+    pub gathered-puts : n * entry-size ≤ length buffer - place →
         Puts (table-of s) (runs-of first many) n (length (midOf place (length buffer - place) buffer))
     gathered-puts room =
         record {
@@ -96,15 +96,15 @@ module _ {s : List ℕ} {plan : Plan} {first : List ℕ} {t : ℕ} {many : List 
     abbrev list : List ℕ
     list = bytes-of (overload-list (table-of s) t)
 
-    pub list-short : length buffer - place < n * size →
+    pub list-short : length buffer - place < n * entry-size →
         Wrote buffer place (placed buffer place list) (written.Refused (record { number = 12; index = 0 })) buffer
-    list-short short = wrote-short buffer place list reached (n * size) gathered-long short
+    list-short short = wrote-short buffer place list reached (n * entry-size) gathered-long short
 
-    pub list-whole : (last : List ℕ) → n * size ≤ length buffer - place →
+    pub list-whole : (last : List ℕ) → n * entry-size ≤ length buffer - place →
         let put = bytes-of (weave (table-of s) (runs-of first many)) in
-        last ≡ put ++ drop (n * size) (midOf place (length buffer - place) buffer) →
-        Wrote buffer place (placed buffer place list) (written.Bytes (n * size))
+        last ≡ put ++ drop (n * entry-size) (midOf place (length buffer - place) buffer) →
+        Wrote buffer place (placed buffer place list) (written.Bytes (n * entry-size))
         (putMid place (length buffer - place) buffer last)
     list-whole last room last-is =
-        wrote-whole buffer place list reached (n * size) gathered-long last room
+        wrote-whole buffer place list reached (n * entry-size) gathered-long last room
         (rw (bytes-same gathered-list) at last-is)

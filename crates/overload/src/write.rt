@@ -1,7 +1,7 @@
 // The writer of the overload list: refusal 12.
+use requests::entry::ENTRY_SIZE;
 use table::plan::Plan;
 use table::reader::Refusal;
-use table::record::SIZE;
 ghost use mathlib.Core.Path.{_≡_};
 ghost use Prim.Native.Nat.{_≤_};
 ghost use lib.ListN.{length};
@@ -44,7 +44,7 @@ pub fn list_size(s: &[u8], plan: Plan, starts: [u8; 16], t: u64) -> usize
     ensures { λ r. ⌜ r ≡ length (bytes-of (overload-list (table-of (now (s .entry))) t)) ⌝ }
 {
     let many = crate::count::count_all(s, plan, starts, t);
-    total_of(plan.tasks, many) * SIZE
+    total_of(plan.tasks, many) * ENTRY_SIZE
 }
 
 // The list of the overload at t, from a place of the buffer on, where `starts` are the start frames.
@@ -71,12 +71,12 @@ pub fn write_list<'a, 'b>(
             index: 0,
         });
     }
-    if buffer.len() - place < n * SIZE {
+    if buffer.len() - place < n * ENTRY_SIZE {
         return Written::Refused(Refusal {
             number: 12,
             index: 0,
         });
     }
     crate::put::put_all(s, plan, starts, many, n, &mut buffer[place..]);
-    Written::Bytes(n * SIZE)
+    Written::Bytes(n * ENTRY_SIZE)
 }

@@ -11,10 +11,9 @@ use Rattle.laws.specs.Reader.{whole, stopped, read-all}
 use Rattle.laws.proofs.LadderLaws.{climb-kept, climb-broken, keeps-or-named}
 use Rattle.laws.proofs.ReaderExact.{Rules}
 use Rattle.model.specs.Task.{Table}
-use Rattle.table.specs.Bytes.{records}
 use Rattle.requests.specs.declared.list_rules.SoFar.{SoFar}
 use Rattle.requests.specs.declared.list_reader.Checked.the-variants.{Legal, Refused}
-use Rattle.requests.specs.Entry.{entry-of}
+use Rattle.requests.specs.Entry.{entries, entry-of}
 use Rattle.requests.specs.Accepted.{Length-right, rules, Good}
 use Rattle.requests.specs.ListReader.{reader-of, check-of}
 use Rattle.requests.specs.ListRefusals.{Breaks}
@@ -32,7 +31,7 @@ module _ (table : Table) (s : List ℕ) where
   unfolding check-of
   check-stopped is = sym (rw is)
 
-  pub check-whole : {b : SoFar} → read-all (reader-of table s) ≡ whole b → {n : ℕ} → n ≡ records s →
+  pub check-whole : {b : SoFar} → read-all (reader-of table s) ≡ whole b → {n : ℕ} → n ≡ entries s →
       Legal n ≡ check-of table s
   unfolding check-of
   check-whole is all = sym (rw (is, all))

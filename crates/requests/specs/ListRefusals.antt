@@ -7,7 +7,7 @@ use lib.ListN.{length}
 use Rattle.laws.specs.Ladder as Ladder
 use Rattle.laws.specs.Reader.{Bad-length, Bad-record}
 use Rattle.model.specs.Task.{Table}
-use Rattle.table.specs.Bytes.{records}
+use Rattle.requests.specs.Entry.{entries}
 use Rattle.requests.specs.Accepted.{Length-right, rules, Good}
 
 -- the first rule that record j breaks, "in each record 10 before 11"
@@ -18,4 +18,4 @@ Breaks table s j number = Ladder.Breaks (rules table) (s, j) number 0
 abbrev pub Refused-with : Table → List ℕ → ℕ → ℕ → Type 0
 Refused-with table s number index =
     Bad-length (Length-right (length s)) 10 number index
-    ⊎ Bad-record (Length-right (length s)) (records s) (Good table s) (Breaks table s) number index
+    ⊎ Bad-record (Length-right (length s)) (entries s) (Good table s) (Breaks table s) number index

@@ -1,8 +1,8 @@
 // The reader of request lists: refusals 10 and 11.
+use crate::entry::ENTRY_SIZE;
 use crate::list_rules::SoFar;
 use table::plan::Plan;
 use table::reader::Refusal;
-use table::record::SIZE;
 ghost use mathlib.Core.Path.{_≡_};
 ghost use Rattle.table.specs.Ready.{Ready};
 ghost use Rattle.table.specs.TableOf.{table-of};
@@ -20,7 +20,7 @@ pub enum Checked {
 fn is_bad_length(n: usize) -> bool
     ensures { λ r. ⌜ r ≡ bad-length n ⌝ }
 {
-    (MOST_REQUESTS * SIZE < n) | (n % SIZE != 0)
+    (MOST_REQUESTS * ENTRY_SIZE < n) | (n % ENTRY_SIZE != 0)
 }
 
 // The whole list: how many records it has, or the first refusal.
@@ -35,7 +35,7 @@ pub fn check_list<'a, 'b>(s: &'a [u8], plan: Plan, list: &'b [u8]) -> Checked
             index: 0,
         });
     }
-    let n = len / SIZE;
+    let n = len / ENTRY_SIZE;
     let mut b = SoFar {
         arrival: 0,
         task: 0,

@@ -50,10 +50,10 @@ accepted-in-rule accepted =
     }
 
 -- and back: these are all that is asked, record by record
-module _ {table : Table} {s : List ℕ} (pads : (i : ℕ) → i < entries s → entry-of s i .pad ≡ 0)
+module _ {last : ℕ} {table : Table} {s : List ℕ} (pads : (i : ℕ) → i < entries s → entry-of s i .pad ≡ 0)
     (legal : Legal table (list-of s)) (sorted : Sorted (list-of s))
-    (near : (i : ℕ) → i < entries s → list-of s .request i .arrival ≤ last-arrival) where
-  pub rules-good : (j : ℕ) → j < entries s → Good table s j
+    (near : (i : ℕ) → i < entries s → list-of s .request i .arrival ≤ last) where
+  pub rules-good : (j : ℕ) → j < entries s → Good last table s j
   rules-good j within =
       record {
         in-place =

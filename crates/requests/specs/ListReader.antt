@@ -9,6 +9,7 @@ use lib.Dec.{ltb, eqb}
 use Rattle.laws.specs.Ladder.{climb}
 use Rattle.laws.specs.Reader.{Reader, Read, whole, stopped, read-all}
 use Rattle.model.specs.Task.{Table}
+use Rattle.model.specs.Request.{last-arrival}
 use Rattle.table.specs.declared.reader.Refusal.{Refusal}
 use Rattle.requests.specs.declared.entry.Entry.{Entry}
 use Rattle.requests.specs.declared.list_rules.SoFar.{SoFar}
@@ -23,8 +24,8 @@ abbrev pub bad-length : ℕ → Bool
 bad-length n = ltb (most-requests * entry-size) n || not (eqb (n % entry-size) 0)
 
 -- "in each record 10 before 11": the number of the first that is broken, or 0
-abbrev pub fault-of : Table → SoFar → Entry → ℕ
-fault-of table b x = climb (rules table) (λ number index. number) (b, x) 0
+abbrev pub fault-of : ℕ → Table → SoFar → Entry → ℕ
+fault-of last table b x = climb (rules last table) (λ number index. number) (b, x) 0
 
 -- how a list is read: rule 10 by its length, then the rules 10 and 11 record by record
 abbrev pub reader-of : Table → List ℕ → Reader SoFar Entry
@@ -35,7 +36,7 @@ reader-of table s =
       count = entries s;
       at = entry-of s;
       start = none-yet;
-      fault = fault-of table;
+      fault = fault-of last-arrival table;
       after = after-of table;
     }
 

@@ -1,5 +1,6 @@
 // The reader of request lists: refusals 10 and 11.
 use crate::entry::ENTRY_SIZE;
+use crate::list_rules::LAST_ARRIVAL;
 use crate::list_rules::SoFar;
 use table::plan::Plan;
 use table::reader::Refusal;
@@ -40,12 +41,12 @@ pub fn check_list<'a, 'b>(s: &'a [u8], plan: Plan, list: &'b [u8]) -> Checked
         arrival: 0,
         task: 0,
         next: [0u8; 16],
-        from: [0u32; 16],
+        from: [0u64; 16],
     };
     let mut i: usize = 0;
     while i < n {
         let x = crate::entry::entry_at(list, i);
-        let f = crate::list_rules::fault(s, plan, b, x);
+        let f = crate::list_rules::fault(s, plan, LAST_ARRIVAL, b, x);
         if f != 0 {
             return Checked::Refused(Refusal {
                 number: f,

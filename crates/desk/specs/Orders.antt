@@ -20,7 +20,7 @@ use Rattle.table.specs.Bytes.{records}
 use Rattle.table.specs.TableOf.{table-of}
 use Rattle.requests.specs.Entry.{bytes-of}
 use Rattle.overload.specs.Place.{no-room}
-use Rattle.response.specs.Deadlines.{first-above, Within-P, First-above}
+use Rattle.table.specs.Deadlines.{first-above, Within-P, First-above}
 
 abbrev pub Order : Type 1
 Order = List (Rule (List ℕ) (List ℕ))

@@ -21,7 +21,7 @@ use Rattle.table.specs.TableOf.{records-before, records-of, task-of}
 use Rattle.requests.specs.Entry.{entry-of, bytes-to}
 use Rattle.requests.specs.ListReader.{check-of}
 use Rattle.overload.specs.Place.{placed}
-use Rattle.response.specs.Deadlines.{first-above}
+use Rattle.table.specs.Deadlines.{first-above}
 use Rattle.desk.specs.Questions.{demand-asked, work-asked, margin-asked, verdict-asked, response-asked, overload-asked}
 use Rattle.desk.specs.ListQuestions.{replay-asked}
 use Rattle.promise.specs.Tables.{A, B, twenty}

@@ -25,7 +25,7 @@ use Rattle.requests.specs.Entry.{entry-of, bytes-to}
 use Rattle.requests.specs.ListReader.{check-of}
 use Rattle.bench.specs.Rule.{first-late, first-left, next-in, tick-of, run-of}
 use Rattle.bench.specs.Loaded.{slots-of, loaded, run-whole, end-of}
-use Rattle.response.specs.Deadlines.{first-above}
+use Rattle.table.specs.Deadlines.{first-above}
 use Rattle.desk.specs.Questions.{demand-asked, response-asked}
 use Rattle.desk.specs.ListQuestions.{replay-asked}
 use Rattle.promise.specs.Tables.{A, B, B-list, F, K7-task, four, twenty}

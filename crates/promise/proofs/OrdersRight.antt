@@ -19,8 +19,8 @@ use Rattle.table.specs.TableOf.{table-of}
 use Rattle.table.specs.WellFormed.{WellFormed}
 use Rattle.table.proofs.TaskLaws.{well-proper}
 use Rattle.overload.specs.Place.{no-room}
-use Rattle.response.specs.Deadlines.{first-above, Within-P, First-above}
-use Rattle.response.proofs.DeadlineLaws.{Above-told, first-above-is, above-told}
+use Rattle.table.specs.Deadlines.{first-above, Within-P, First-above}
+use Rattle.table.proofs.DeadlineLaws.{Above-told, first-above-is, above-told}
 use Rattle.desk.specs.Orders.{time-order, task-order, frame-order, size-order, writing-order, is-found, Overloaded-at, is-calm, list-at, list-in, t-in}
 use Rattle.promise.proofs.OverloadVerdicts.{over-at, over-verdict}
 

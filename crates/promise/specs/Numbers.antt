@@ -21,7 +21,7 @@ use Rattle.table.specs.Bytes.{records}
 use Rattle.table.specs.TableOf.{table-of}
 use Rattle.requests.specs.Entry.{entries, list-of}
 use Rattle.requests.specs.Accepted.{Accepted}
-use Rattle.response.specs.Deadlines.{Within-P}
+use Rattle.table.specs.Deadlines.{Within-P}
 use Rattle.desk.specs.Questions.{read-asked, demand-asked, work-asked, margin-asked, window-asked, verdict-asked, response-asked}
 use Rattle.desk.specs.ListQuestions.{list-asked, replay-asked}
 use Rattle.promise.specs.Bench.{Loaded-rightly}

@@ -1,6 +1,7 @@
 -- What the writer has gathered before it writes: how many requests each task makes, and how many all make. They are
 -- those of the overload list, so that what is put from them is the list's bytes; and the writer's ways out.
 -- Assumes nothing.
+use mathlib.Core.Bool.{Bool, true, false}
 use mathlib.Core.Path.{_≡_, sym, ap, _∙_}
 use mathlib.Core.List.{List, _++_}
 use Prim.Native.Nat.{ℕ, _-_, _*_, _≤_, _<_}
@@ -24,14 +25,14 @@ use Rattle.table.specs.Bytes.{Bytes}
 use Rattle.table.specs.TableOf.{table-of}
 use Rattle.table.specs.declared.plan.Plan.{Plan}
 use Rattle.table.proofs.ReadyLaws.{ready-tasks, ready-few, ready-proper}
+use Rattle.place.specs.declared.written.Written.the-variants as written
+use Rattle.place.specs.Place.{no-room, fitted, Wrote}
+use Rattle.place.proofs.TailLaws.{lent-tail}
+use Rattle.place.proofs.PlaceLaws.{catches-room, wrote-refused, wrote-whole}
 use Rattle.requests.specs.Entry.{entry-size, bytes-of}
 use Rattle.requests.proofs.BytesLaws.{bytes-length, bytes-same}
-use Rattle.overload.specs.declared.write.Written.the-variants as written
 use Rattle.overload.specs.Counts.{Asked, many-in, counts}
 use Rattle.overload.specs.Lanes.{runs-of, Puts}
-use Rattle.overload.specs.Place.{placed, Wrote}
-use Rattle.overload.proofs.TailLaws.{lent-tail}
-use Rattle.overload.proofs.PlaceLaws.{wrote-short, wrote-whole}
 
 pub record Gathered (s : List ℕ) (plan : Plan) (first : List ℕ) (t : ℕ) (many : List ℕ) (n : ℕ) : Type 0 where
   pub asked : Asked s plan first t
@@ -80,13 +81,20 @@ module _ {s : List ℕ} {plan : Plan} {first : List ℕ} {t : ℕ} {many : List 
 
   -- ---- what the record writer asks, and the ways out
 
-  module _ (buffer : List ℕ) (place : ℕ) (reached : place ≤ length buffer) where
-    pub gathered-puts : n * entry-size ≤ length buffer - place →
+  module _ (buffer : List ℕ) (place : ℕ) {none : Bool}
+      (tested : none ≡ no-room (length buffer) place (n * entry-size)) where
+    room : none ≡ false → (place ≤ length buffer) × (n * entry-size ≤ length buffer - place)
+    room is = catches-room (length buffer) place (n * entry-size) .passed (sym tested ∙ is)
+
+    pub gathered-reached : none ≡ false → place ≤ length buffer
+    gathered-reached is = room is .0
+
+    pub gathered-puts : none ≡ false →
         Puts (table-of s) (runs-of first many) n (length (midOf place (length buffer - place) buffer))
-    gathered-puts room =
+    gathered-puts is =
         record {
           count-is = gathered-count;
-          fits = rw (lent-tail buffer place reached, length-drop place buffer) room;
+          fits = rw (lent-tail buffer place (room is .0), length-drop place buffer) (room is .1);
           inside = λ k inside. rw (first-is k inside) (overload-inside good t k inside);
           near = λ k i inside below.
               let before = run-near (good .proper k inside) (start (table-of s .task k) t) t i in
@@ -96,15 +104,15 @@ module _ {s : List ℕ} {plan : Plan} {first : List ℕ} {t : ℕ} {many : List 
     abbrev list : List ℕ
     list = bytes-of (overload-list (table-of s) t)
 
-    pub list-short : length buffer - place < n * entry-size →
-        Wrote buffer place (placed buffer place list) (written.Refused (record { number = 12; index = 0 })) buffer
-    list-short short = wrote-short buffer place list reached (n * entry-size) gathered-long short
+    pub list-refused : none ≡ true →
+        Wrote buffer place (fitted buffer place list) (written.Refused (record { number = 12; index = 0 })) buffer
+    list-refused is = wrote-refused buffer place list (n * entry-size) gathered-long (sym tested ∙ is)
 
-    pub list-whole : (last : List ℕ) → n * entry-size ≤ length buffer - place →
+    pub list-whole : none ≡ false → (last : List ℕ) →
         let put = bytes-of (weave (table-of s) (runs-of first many)) in
         last ≡ put ++ drop (n * entry-size) (midOf place (length buffer - place) buffer) →
-        Wrote buffer place (placed buffer place list) (written.Bytes (n * entry-size))
+        Wrote buffer place (fitted buffer place list) (written.Bytes (n * entry-size))
         (putMid place (length buffer - place) buffer last)
-    list-whole last room last-is =
-        wrote-whole buffer place list reached (n * entry-size) gathered-long last room
+    list-whole is last last-is =
+        wrote-whole buffer place list (n * entry-size) gathered-long (sym tested ∙ is) last
         (rw (bytes-same gathered-list) at last-is)

@@ -16,11 +16,11 @@ use Rattle.table.specs.Ready.{Ready}
 use Rattle.table.specs.TableOf.{table-of}
 use Rattle.table.specs.declared.plan.Plan.{Plan}
 use Rattle.table.proofs.ReadyLaws.{ready-tasks, ready-few}
+use Rattle.place.proofs.TailLaws.{lent-tail, one-more}
 use Rattle.requests.specs.Entry.{entry-size, entry-bytes, bytes-to, bytes-of}
 use Rattle.requests.proofs.BytesLaws.{bytes-length}
 use Rattle.overload.specs.Lanes.{runs-of, Puts, front, Movable, moved-on, next-in, Stand}
 use Rattle.overload.specs.declared.lanes.Lanes.{Lanes}
-use Rattle.overload.proofs.TailLaws.{lent-tail, one-more}
 use Rattle.overload.proofs.MoveLaws.{Full, full-on}
 use Rattle.overload.proofs.StandLaws.{stand-start, stand-frame, stand-arrival, turn-known, turn-left, turn-request, turn-stand}
 

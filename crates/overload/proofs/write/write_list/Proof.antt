@@ -1,20 +1,18 @@
--- `overload::write::write_list` meets its contract: it has no loop, and a law of GatheredLaws or PlaceLaws is each of
--- its three ways out.
+-- `overload::write::write_list` meets its contract: it has no loop, and a law of GatheredLaws is each of its two ways
+-- out.
 -- Assumes nothing.
+use Prim.Native.Nat.{_≤_}
+use lib.ListN.{length}
 use native.Mathlib.Omega.{arith}
 use borrow.Author.Needs.{needs}
 use Rattle.table.proofs.ReadyLaws.{ready-tasks, ready-few}
-use Rattle.overload.proofs.PlaceLaws.{wrote-past}
-use Rattle.overload.proofs.GatheredLaws.{Gathered, gathered-puts, list-short, list-whole}
+use Rattle.overload.proofs.GatheredLaws.{Gathered, gathered-reached, gathered-puts, list-refused, list-whole}
 use Rattle.overload.proofs.write.write_list.Statement.{statement}
 use Rattle.overload.proofs.write.write_list.Tie as tie
 
 total-of-requires : tie.Need-total-of-requires
 total-of-requires c κs =
     let ready = c .before .before .before .pre .ready in omega (arith, ready-tasks ready, ready-few ready)
-
-returns : tie.Need-returns
-returns c = wrote-past _ _ _ (search needs)
 
 -- what is known once all is counted
 gathered : (c : tie.After-total-of)
@@ -31,22 +29,37 @@ gathered c =
       total = c .total-of .ensures .is;
     }
 
-returns-2 : tie.Need-returns-2
-returns-2 c = list-short (gathered (c .before .before)) _ _ (search needs) (search needs)
+returns : tie.Need-returns
+returns c = list-refused (gathered (c .before .before)) _ _ (c .before .has-no-room .ensures) (c .if1 .taken)
+
+-- there is room, so the place is not past the end
+reached : (c : tie.Else1)
+    → let at-total = c .before .before in
+    let known = at-total .before .before .before in
+    let args = known .before .args in
+    args .place ≤ length (args .buffer .now)
+reached c =
+    let at-total = c .before .before in
+    let known = at-total .before .before .before in
+    let args = known .before .args in
+    gathered-reached (gathered at-total) (args .buffer .now) (args .place) (c .before .has-no-room .ensures)
+    (c .if1 .left)
 
 put-all-requires : tie.Need-put-all-requires
 put-all-requires c κs =
-    let counted = c .before .before .before in
-    let known = counted .before .before .before in
+    let room = c .before in
+    let at-total = room .before .before in
+    let known = at-total .before .before .before in
     let args = known .before .args in
-    (search needs, gathered-puts (gathered counted) (args .buffer .now) (args .place) (search needs) (search needs))
+    let tested = room .before .has-no-room .ensures in
+    (search needs, gathered-puts (gathered at-total) (args .buffer .now) (args .place) tested (room .if1 .left))
 
-returns-3 : tie.Need-returns-3
-returns-3 c =
+returns-2 : tie.Need-returns-2
+returns-2 c =
     let put = c .before .before in
-    let lent = put .before in
-    let counted = lent .before .before .before in
-    list-whole (gathered counted) _ _ (search needs) _ (search needs) (put .put-all .ensures)
+    let room = put .before .before in
+    list-whole (gathered (room .before .before)) _ _ (room .before .has-no-room .ensures) (room .if1 .left) _
+    (put .put-all .ensures)
 
 pub write-list-spec : {M : Type 1} → statement M
 write-list-spec =
@@ -54,14 +67,13 @@ write-list-spec =
     (tie.spec
     (λ c κs. search needs)
     total-of-requires
+    (λ c. search needs)
+    (λ c κs. search needs)
     returns
-    (λ c. search needs)
-    (λ c. search needs)
-    returns-2
-    (λ c. search needs)
-    (λ c. search needs)
+    reached
+    reached
     (λ c. search needs)
     put-all-requires
     (λ c. search needs)
     (λ c. search needs)
-    returns-3)
+    returns-2)

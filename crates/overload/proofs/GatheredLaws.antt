@@ -79,40 +79,50 @@ module _ {s : List ℕ} {plan : Plan} {first : List ℕ} {t : ℕ} {many : List 
       let list = overload-list (table-of s) t in
       omega (arith, bytes-length list (list .count), gathered-count, gathered-list .count-is)
 
-  -- ---- what the record writer asks, and the ways out
+-- ---- what the record writer asks, and the ways out
 
-  module _ (buffer : List ℕ) (place : ℕ) {none : Bool}
-      (tested : none ≡ no-room (length buffer) place (n * entry-size)) where
-    room : none ≡ false → (place ≤ length buffer) × (n * entry-size ≤ length buffer - place)
-    room is = catches-room (length buffer) place (n * entry-size) .passed (sym tested ∙ is)
+-- .. and whether there is no room for them in the buffer from the place on
+pub record Tested (s : List ℕ) (plan : Plan) (first : List ℕ) (t : ℕ) (many : List ℕ) (n : ℕ)
+    (buffer : List ℕ) (place : ℕ) (none : Bool) : Type 0 where
+  pub gathered : Gathered s plan first t many n
+  pub none-is : none ≡ no-room (length buffer) place (n * entry-size)
 
-    pub gathered-reached : none ≡ false → place ≤ length buffer
-    gathered-reached is = room is .0
+module _ {s : List ℕ} {plan : Plan} {first : List ℕ} {t : ℕ} {many : List ℕ} {n : ℕ} {buffer : List ℕ} {place : ℕ}
+    {none : Bool} (tested : Tested s plan first t many n buffer place none) where
+  room : none ≡ false → (place ≤ length buffer) × (n * entry-size ≤ length buffer - place)
+  room is = catches-room (length buffer) place (n * entry-size) .passed (sym (tested .none-is) ∙ is)
 
-    pub gathered-puts : none ≡ false →
-        Puts (table-of s) (runs-of first many) n (length (midOf place (length buffer - place) buffer))
-    gathered-puts is =
-        record {
-          count-is = gathered-count;
-          fits = rw (lent-tail buffer place (room is .0), length-drop place buffer) (room is .1);
-          inside = λ k inside. rw (first-is k inside) (overload-inside good t k inside);
-          near = λ k i inside below.
-              let before = run-near (good .proper k inside) (start (table-of s .task k) t) t i in
-              rw (first-is k inside) (omega (arith, before (rw (many-is k inside) at below), gathered .asked .within));
-        }
+  pub place-reached : none ≡ false → place ≤ length buffer
+  place-reached is = room is .0
 
-    abbrev list : List ℕ
-    list = bytes-of (overload-list (table-of s) t)
+  pub tested-puts : none ≡ false →
+      Puts (table-of s) (runs-of first many) n (length (midOf place (length buffer - place) buffer))
+  tested-puts is =
+      let from = tested .gathered in
+      record {
+        count-is = gathered-count from;
+        fits = rw (lent-tail buffer place (room is .0), length-drop place buffer) (room is .1);
+        inside = λ k inside. rw (first-is from k inside) (overload-inside (good from) t k inside);
+        near = λ k i inside below.
+            let before = run-near (good from .proper k inside) (start (table-of s .task k) t) t i in
+            let few = rw (many-is from k inside) at below in
+            rw (first-is from k inside) (omega (arith, before few, from .asked .within));
+      }
 
-    pub list-refused : none ≡ true →
-        Wrote buffer place (fitted buffer place list) (written.Refused (record { number = 12; index = 0 })) buffer
-    list-refused is = wrote-refused buffer place list (n * entry-size) gathered-long (sym tested ∙ is)
+  abbrev list : List ℕ
+  list = bytes-of (overload-list (table-of s) t)
 
-    pub list-whole : none ≡ false → (last : List ℕ) →
-        let put = bytes-of (weave (table-of s) (runs-of first many)) in
-        last ≡ put ++ drop (n * entry-size) (midOf place (length buffer - place) buffer) →
-        Wrote buffer place (fitted buffer place list) (written.Bytes (n * entry-size))
-        (putMid place (length buffer - place) buffer last)
-    list-whole is last last-is =
-        wrote-whole buffer place list (n * entry-size) gathered-long (sym tested ∙ is) last
-        (rw (bytes-same gathered-list) at last-is)
+  pub list-refused : none ≡ true →
+      Wrote buffer place (fitted buffer place list) (written.Refused (record { number = 12; index = 0 })) buffer
+  list-refused is =
+      wrote-refused buffer place list (n * entry-size) (gathered-long (tested .gathered)) (sym (tested .none-is) ∙ is)
+
+  pub list-whole : none ≡ false → (last : List ℕ) →
+      let put = bytes-of (weave (table-of s) (runs-of first many)) in
+      last ≡ put ++ drop (n * entry-size) (midOf place (length buffer - place) buffer) →
+      Wrote buffer place (fitted buffer place list) (written.Bytes (n * entry-size))
+      (putMid place (length buffer - place) buffer last)
+  list-whole is last last-is =
+      let from = tested .gathered in
+      wrote-whole buffer place list (n * entry-size) (gathered-long from) (sym (tested .none-is) ∙ is) last
+      (rw (bytes-same (gathered-list from)) at last-is)

@@ -1,12 +1,10 @@
 -- `overload::write::write_list` meets its contract: it has no loop, and a law of GatheredLaws is each of its two ways
 -- out.
 -- Assumes nothing.
-use Prim.Native.Nat.{_≤_}
-use lib.ListN.{length}
 use native.Mathlib.Omega.{arith}
 use borrow.Author.Needs.{needs}
 use Rattle.table.proofs.ReadyLaws.{ready-tasks, ready-few}
-use Rattle.overload.proofs.GatheredLaws.{Gathered, gathered-reached, gathered-puts, list-refused, list-whole}
+use Rattle.overload.proofs.GatheredLaws.{Tested, place-reached, tested-puts, list-refused, list-whole}
 use Rattle.overload.proofs.write.write_list.Statement.{statement}
 use Rattle.overload.proofs.write.write_list.Tie as tie
 
@@ -14,52 +12,36 @@ total-of-requires : tie.Need-total-of-requires
 total-of-requires c κs =
     let ready = c .before .before .before .pre .ready in omega (arith, ready-tasks ready, ready-few ready)
 
--- what is known once all is counted
-gathered : (c : tie.After-total-of)
-    → let known = c .before .before .before in
+-- what is known once all is counted and the room is tested
+tested : (c : tie.After-has-no-room)
+    → let at-total = c .before in
+    let known = at-total .before .before .before in
     let args = known .before .args in
-    Gathered (args .s .now) (args .plan) (args .starts) (args .t)
-    (c .before .count-all .result) (c .total-of .result)
-gathered c =
-    let known = c .before .before .before in
+    Tested (args .s .now) (args .plan) (args .starts) (args .t)
+    (at-total .before .count-all .result) (at-total .total-of .result)
+    (args .buffer .now) (args .place) (c .has-no-room .result)
+tested c =
+    let at-total = c .before in
+    let known = at-total .before .before .before in
     record {
-      asked = known .before .pre;
-      bytes = known .shared-slice-known .given;
-      many-are = c .before .count-all .ensures;
-      total = c .total-of .ensures .is;
+      gathered =
+          record {
+            asked = known .before .pre;
+            bytes = known .shared-slice-known .given;
+            many-are = at-total .before .count-all .ensures;
+            total = at-total .total-of .ensures .is;
+          };
+      none-is = c .has-no-room .ensures;
     }
 
 returns : tie.Need-returns
-returns c = list-refused (gathered (c .before .before)) _ _ (c .before .has-no-room .ensures) (c .if1 .taken)
-
--- there is room, so the place is not past the end
-reached : (c : tie.Else1)
-    → let at-total = c .before .before in
-    let known = at-total .before .before .before in
-    let args = known .before .args in
-    args .place ≤ length (args .buffer .now)
-reached c =
-    let at-total = c .before .before in
-    let known = at-total .before .before .before in
-    let args = known .before .args in
-    gathered-reached (gathered at-total) (args .buffer .now) (args .place) (c .before .has-no-room .ensures)
-    (c .if1 .left)
+returns c = list-refused (tested (search needs)) (search needs)
 
 put-all-requires : tie.Need-put-all-requires
-put-all-requires c κs =
-    let room = c .before in
-    let at-total = room .before .before in
-    let known = at-total .before .before .before in
-    let args = known .before .args in
-    let tested = room .before .has-no-room .ensures in
-    (search needs, gathered-puts (gathered at-total) (args .buffer .now) (args .place) tested (room .if1 .left))
+put-all-requires c κs = (search needs, tested-puts (tested (search needs)) (search needs))
 
 returns-2 : tie.Need-returns-2
-returns-2 c =
-    let put = c .before .before in
-    let room = put .before .before in
-    list-whole (gathered (room .before .before)) _ _ (room .before .has-no-room .ensures) (room .if1 .left) _
-    (put .put-all .ensures)
+returns-2 c = list-whole (tested (search needs)) (search needs) _ (c .before .before .put-all .ensures)
 
 pub write-list-spec : {M : Type 1} → statement M
 write-list-spec =
@@ -70,8 +52,8 @@ write-list-spec =
     (λ c. search needs)
     (λ c κs. search needs)
     returns
-    reached
-    reached
+    (λ c. place-reached (tested (search needs)) (search needs))
+    (λ c. place-reached (tested (search needs)) (search needs))
     (λ c. search needs)
     put-all-requires
     (λ c. search needs)

@@ -77,7 +77,7 @@ cases =
     ∷ no-list (0 ∷ []) 10 0 ∷ no-list (times 129 (req 0 0 0)) 10 0
     -- ".. pad not zero, unknown task or frame, arrival too large, order broken"
     ∷ no-list (set (req 0 0 0) 2 1) 10 0 ∷ no-list (req 2 0 0) 10 0 ∷ no-list (req 1 1 0) 10 0
-    ∷ no-list (req 0 0 65536) 10 0 ∷ no-list (req 1 0 0 ++ req 0 0 0) 10 1
+    ∷ no-list (set (req 0 0 0) 6 1) 10 0 ∷ no-list (req 1 0 0 ++ req 0 0 0) 10 1
     -- 11: "next request has the wrong frame or comes too soon"; "10 before 11"
     ∷ no-list (req 0 0 0 ++ req 0 2 3) 11 1 ∷ no-list (req 0 0 0 ++ req 0 1 2) 11 1
     ∷ no-list (req 0 0 1 ++ req 0 2 0) 10 1

@@ -2,7 +2,6 @@
 -- Assumes nothing.
 use mathlib.Core.List.{List, [], _∷_, _++_}
 use Prim.Native.Nat.{ℕ, _/_, _%_}
-use Rattle.requests.specs.Entry.{entry-bytes}
 
 -- one record, of which every table here is made: "E, D, P, each 16 bits, low byte first". Where one of them is at most
 -- 65,535, its second byte is all that is left
@@ -51,9 +50,10 @@ each-32769 = sporadic 0 32769 65535 1
 unfoldable pub longest : List ℕ
 longest = sporadic 0 65535 65535 65535
 
--- one request, of which every list here is made
+-- one request, of which every list here is made: task, frame, an arrival below 256. Written out, and not by
+-- `entry-bytes`, so that a row with a list says which bytes those are
 abbrev pub req : ℕ → ℕ → ℕ → List ℕ
-req task frame arrival = entry-bytes (record { task = task; frame = frame; arrival = arrival })
+req task frame arrival = task ∷ frame ∷ 0 ∷ 0 ∷ arrival ∷ 0 ∷ 0 ∷ 0 ∷ []
 
 -- "Whole list, 16 bytes: 00 01 00 00 00 00 00 00 01 00 00 00 00 00 00 00."
 unfoldable pub B-list : List ℕ

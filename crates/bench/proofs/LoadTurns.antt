@@ -10,10 +10,9 @@ use lib.Seq.{ext-getD, getD-set-same, getD-set-other}
 use Rattle.laws.specs.Sums.{tabulate}
 use Rattle.laws.proofs.Cases.{lt-or-le}
 use Rattle.model.specs.Jobs.{jobs-of}
-use Rattle.table.specs.Bytes.{size, records}
 use Rattle.table.specs.TableOf.{table-of}
 use Rattle.requests.specs.declared.entry.Entry.{Entry}
-use Rattle.requests.specs.Entry.{most-requests, entry-of, list-of}
+use Rattle.requests.specs.Entry.{entry-size, entries, most-requests, entry-of, list-of}
 use Rattle.requests.specs.ListRules.{Placed}
 use Rattle.requests.specs.Accepted.{Listed}
 use Rattle.requests.proofs.AcceptedLaws.{accepted-few, entry-room, accepted-placed}
@@ -86,10 +85,10 @@ loading-start {s} {list} listed =
 module _ {s list : List ℕ} {n i : ℕ} {left due arrive release task : List ℕ}
     (so-far : Loading s list n i left due arrive release task) where
   module _ (more : i < n) where
-    here : i < records list
+    here : i < entries list
     here = omega (arith, so-far .listed .count-is)
 
-    pub loading-room : (i + 1) * size ≤ length list
+    pub loading-room : (i + 1) * entry-size ≤ length list
     loading-room = entry-room list i here
 
     module _ {x : Entry} (read : x ≡ entry-of list i) where

@@ -19,8 +19,8 @@ use Rattle.table.specs.declared.reader.Refusal.{Refusal}
 use Rattle.verdict.specs.declared.judge.Verdict.{Verdict}
 use Rattle.verdict.specs.VerdictWritten.{closing-of, judged-of}
 use Rattle.response.specs.ResponseWritten.{response-of}
-use Rattle.overload.specs.declared.write.Written as write
-use Rattle.overload.specs.Place.{written-of, Wrote}
+use Rattle.place.specs.declared.written.Written as written
+use Rattle.place.specs.Place.{written-of, Wrote}
 use Rattle.bench.specs.ReplayWritten.{replayed-of}
 use Rattle.desk.specs.declared.answers.Written.{Written}
 use Rattle.desk.specs.Flat.{flat-window}
@@ -71,7 +71,7 @@ written-laid (answered list) = refl
 written-laid (refused number index) = refl
 
 -- what was written in the writer's own words
-pub wrote-laid : {buffer : List ℕ} {place : ℕ} {said : Answer (List ℕ)} {w : write.Written} {after : List ℕ}
+pub wrote-laid : {buffer : List ℕ} {place : ℕ} {said : Answer (List ℕ)} {w : written.Written} {after : List ℕ}
     {r : Written}
     → Wrote buffer place said w after → r ≡ laid-written w → Flat-wrote buffer place said r after
 wrote-laid {said = said} wrote is =

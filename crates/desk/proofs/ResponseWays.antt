@@ -15,8 +15,8 @@ use Rattle.table.specs.Bytes.{records}
 use Rattle.table.specs.TableReader.{reading-of}
 use Rattle.table.specs.TableOf.{table-of}
 use Rattle.table.proofs.TableReaderExact.{shaped}
-use Rattle.response.specs.Deadlines.{first-above}
-use Rattle.response.proofs.DeadlineLaws.{above-at, above-none}
+use Rattle.table.specs.Deadlines.{first-above}
+use Rattle.table.proofs.DeadlineLaws.{above-at, above-none}
 use Rattle.desk.specs.Questions.{response-asked}
 
 module _ (s : List ℕ) (shape : Shape) (read : reading-of s ≡ reading.Table shape) (k i : ℕ)

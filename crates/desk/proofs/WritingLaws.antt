@@ -29,7 +29,7 @@ use Rattle.verdict.specs.declared.judge.Verdict.the-variants.{Overloaded}
 use Rattle.verdict.specs.VerdictWritten.{judged-of}
 use Rattle.verdict.proofs.judge.Verdict.{the-type}
 use Rattle.overload.specs.Counts.{Asked}
-use Rattle.overload.specs.Place.{placed}
+use Rattle.place.specs.Place.{fitted}
 use Rattle.desk.specs.Orders.{Order, not-overloaded, is-calm, list-at}
 use Rattle.desk.specs.Questions.{asked, size-asked, overload-asked}
 
@@ -66,8 +66,8 @@ module _ (s : List ℕ) (shape : Shape) (read : reading-of s ≡ reading.Table s
     size-answered = rw (read, verdict-is)
 
     pub overload-answered : (buffer : List ℕ) (place : ℕ)
-        → placed buffer place (list-at (table-of s) t) ≡ overload-asked s buffer place
-    unfolding overload-asked placed
+        → fitted buffer place (list-at (table-of s) t) ≡ overload-asked s buffer place
+    unfolding overload-asked fitted
     overload-answered buffer place = rw (read, verdict-is)
 
     -- what the writer asks

@@ -7,7 +7,7 @@ use Prim.Native.Nat.{ℕ}
 use lib.ListN.{length}
 use Rattle.model.specs.Replay.{Replayed, missed, all-met}
 use Rattle.model.specs.Answer.{Answer, answered, refused}
-use Rattle.overload.specs.Place.{buffer-after}
+use Rattle.place.specs.Place.{buffer-after}
 use Rattle.desk.specs.declared.answers.Written.{Written}
 use Rattle.desk.specs.declared.answers.Listed.{Listed}
 use Rattle.desk.specs.declared.answers.Ending.{Ending}

@@ -11,8 +11,8 @@ use Rattle.verdict.specs.declared.judge.Verdict as judge
 use Rattle.verdict.specs.declared.judge.Verdict.the-variants.{Overloaded, Fits, Undecided}
 use Rattle.response.specs.declared.rounds.Response as rounds
 use Rattle.response.specs.declared.rounds.Response.the-variants.{OnTime, Late}
-use Rattle.overload.specs.declared.write.Written as write
-use Rattle.overload.specs.declared.write.Written.the-variants.{Bytes, Refused}
+use Rattle.place.specs.declared.written.Written as written
+use Rattle.place.specs.declared.written.Written.the-variants.{Bytes, Refused}
 use Rattle.bench.specs.declared.replay.Replayed.{Replayed}
 use Rattle.bench.specs.declared.replay.Replayed.the-variants.{Missed, AllMet}
 use Rattle.desk.specs.declared.answers.Window.{Window}
@@ -38,7 +38,7 @@ unfoldable pub laid-response : rounds.Response → Response
 laid-response (OnTime value rounds) = record { refusal = none; late = false; value = value; round = rounds }
 laid-response (Late value round) = record { refusal = none; late = true; value = value; round = round }
 
-unfoldable pub laid-written : write.Written → Written
+unfoldable pub laid-written : written.Written → Written
 laid-written (Bytes n) = record { refusal = none; bytes = n }
 laid-written (Refused x) = record { refusal = x; bytes = 0 }
 

@@ -19,8 +19,8 @@ use Rattle.model.specs.Overload.{overload-list}
 use Rattle.table.specs.Bytes.{records}
 use Rattle.table.specs.TableOf.{table-of}
 use Rattle.requests.specs.Entry.{bytes-of}
-use Rattle.overload.specs.Place.{no-room}
-use Rattle.response.specs.Deadlines.{first-above, Within-P, First-above}
+use Rattle.place.specs.Place.{no-room}
+use Rattle.table.specs.Deadlines.{first-above, Within-P, First-above}
 
 abbrev pub Order : Type 1
 Order = List (Rule (List ℕ) (List ℕ))
@@ -90,7 +90,7 @@ list-in table = list-at table (t-in (verdict horizon table))
 -- one: past the end no list ends within it, and from any other place the buffer has `length buffer - place` bytes
 abbrev pub lacks-room : List ℕ → ℕ → Rule (List ℕ) (List ℕ)
 lacks-room buffer place =
-    rule 12 (λ s. no-room buffer place (list-in (table-of s)))
+    rule 12 (λ s. no-room (length buffer) place (length (list-in (table-of s))))
     (λ s. (t : ℕ) → Overloaded-at (table-of s) t → place + length (list-at (table-of s) t) ≤ length buffer)
 
 -- ---- the orders

@@ -1,4 +1,5 @@
 // The numbers of document 01 that a caller may need, by name.
+use requests::entry::ENTRY_SIZE;
 use table::record::SIZE;
 
 // "t is 0 to 65,536": the greatest t, and the greatest window, that is asked about or searched.
@@ -19,7 +20,7 @@ pub const MOST_TABLE_BYTES: usize = MOST_RECORDS * SIZE;
 // have more.
 pub const MOST_REQUESTS: usize = requests::list_reader::MOST_REQUESTS;
 
-pub const MOST_LIST_BYTES: usize = MOST_REQUESTS * SIZE;
+pub const MOST_LIST_BYTES: usize = MOST_REQUESTS * ENTRY_SIZE;
 
 // Every refusal has a number from 1 to this.
 pub const LAST_REFUSAL: u8 = 13;

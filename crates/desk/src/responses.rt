@@ -45,7 +45,7 @@ fn respond_in(table: &[u8], shape: Shape, task: u64, frame: u64) -> Response
             round: 0,
         };
     }
-    let index = response::deadlines::first_above(table, shape.records);
+    let index = table::deadlines::first_above(table, shape.records);
     if index < shape.records {
         return Response {
             refusal: Refusal { number: 8, index },

@@ -50,15 +50,15 @@ pub extern "C" fn limpidorsa_overload_size(table: &[u8]) -> Written
     size_in(table, shape)
 }
 
-fn lay_written(x: overload::write::Written) -> Written
+fn lay_written(x: place::written::Written) -> Written
     ensures { λ r. ⌜ r ≡ laid-written x ⌝ }
 {
     match x {
-        overload::write::Written::Bytes(bytes) => Written {
+        place::written::Written::Bytes(bytes) => Written {
             refusal: NONE,
             bytes,
         },
-        overload::write::Written::Refused(refusal) => Written { refusal, bytes: 0 },
+        place::written::Written::Refused(refusal) => Written { refusal, bytes: 0 },
     }
 }
 

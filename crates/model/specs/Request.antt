@@ -41,6 +41,10 @@ no-task table k = leb (table .tasks) k
 abbrev pub no-frame : Table → ℕ → ℕ → Bool
 no-frame table k i = no-task table k || leb (table .task k .count) i
 
+-- no "frame of the table has D above its P"
+abbrev pub Frames-within : Table → Type 0
+Frames-within table = (k i : ℕ) → Has-frame table k i → table .task k .D i ≤ table .task k .P i
+
 -- request j is the next of its task after request i
 pub record Next (list : Requests) (i j : ℕ) : Type 0 where
   pub earlier : i < j

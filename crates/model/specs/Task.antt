@@ -15,7 +15,7 @@ pub record Table : Type 0 where
   pub tasks : ℕ
   pub task : ℕ → Task
 
--- "E, D and P are each 1 to 65,535 .. 16 frames in a task": what the laws use of it
+-- "E, D and P are each 1 to 65,535 .. 16 frames in a task"
 pub record Proper (task : Task) : Type 0 where
   pub some : 1 ≤ task .count
   pub few : task .count ≤ 16
@@ -24,6 +24,7 @@ pub record Proper (task : Task) : Type 0 where
   pub waits : (i : ℕ) → i < task .count → 1 ≤ task .D i
   pub soon : (i : ℕ) → i < task .count → task .D i ≤ 65535
   pub moves : (i : ℕ) → i < task .count → 1 ≤ task .P i
+  pub often : (i : ℕ) → i < task .count → task .P i ≤ 65535
 
 -- ".. 16 tasks"
 pub record ProperTable (table : Table) : Type 0 where

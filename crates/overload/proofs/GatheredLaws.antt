@@ -2,6 +2,7 @@
 -- those of the overload list, so that what is put from them is the list's bytes where every task begins at 0; and the
 -- writer's ways out.
 -- Assumes nothing.
+use mathlib.Core.Bool.{Bool, true, false}
 use mathlib.Core.Path.{_≡_, sym, ap, _∙_}
 use mathlib.Core.List.{List, _++_}
 use Prim.Native.Nat.{ℕ, _-_, _*_, _≤_, _<_}
@@ -21,19 +22,19 @@ use Rattle.model.proofs.StartLaws.{starts-inside}
 use Rattle.model.proofs.OverloadLaws.{overload-inside, overload-before}
 use Rattle.model.proofs.WeaveLaws.{weave-count}
 use Rattle.model.proofs.WeaveSame.{Alike, earliest-same, weave-same}
-use Rattle.table.specs.Bytes.{Bytes, size}
+use Rattle.table.specs.Bytes.{Bytes}
 use Rattle.table.specs.TableOf.{table-of}
 use Rattle.table.specs.declared.plan.Plan.{Plan}
 use Rattle.table.proofs.ReadyLaws.{ready-tasks, ready-few, ready-proper}
-use Rattle.requests.specs.Entry.{bytes-of}
+use Rattle.place.specs.declared.written.Written.the-variants as written
+use Rattle.place.specs.Place.{no-room, fitted, Wrote}
+use Rattle.place.proofs.TailLaws.{lent-tail}
+use Rattle.place.proofs.PlaceLaws.{catches-room, wrote-refused, wrote-whole}
+use Rattle.requests.specs.Entry.{entry-size, bytes-of}
 use Rattle.sums.specs.Sized.{ceiling}
 use Rattle.requests.proofs.BytesLaws.{bytes-length, bytes-same}
-use Rattle.overload.specs.declared.write.Written.the-variants as written
 use Rattle.overload.specs.Counts.{Asked, many-in, counts}
 use Rattle.overload.specs.Lanes.{runs-of, Puts}
-use Rattle.overload.specs.Place.{placed, Wrote}
-use Rattle.overload.proofs.TailLaws.{lent-tail}
-use Rattle.overload.proofs.PlaceLaws.{wrote-short, wrote-whole}
 
 pub record Gathered (s : List ℕ) (plan : Plan) (first : List ℕ) (t : ℕ) (many : List ℕ) (n : ℕ) : Type 0 where
   pub asked : Asked s plan first t
@@ -71,7 +72,7 @@ module _ {s : List ℕ} {plan : Plan} {first : List ℕ} {t : ℕ} {many : List 
       ∙ sum-cong (table-of s .tasks) (λ k. getD many k 0) (runs .many) many-is
       ∙ sym (weave-count (table-of s) runs)
 
-  pub gathered-long : length (bytes-of (overload-list (table-of s) t)) ≡ n * size
+  pub gathered-long : length (bytes-of (overload-list (table-of s) t)) ≡ n * entry-size
   gathered-long =
       let list = overload-list (table-of s) t in omega (arith, bytes-length list (list .count), gathered-count)
 
@@ -99,31 +100,48 @@ module _ {s : List ℕ} {plan : Plan} {first : List ℕ} {t : ℕ} {many : List 
           gathered .asked .within,
         )
 
-  -- ---- what the record writer asks, and the ways out
+-- ---- what the record writer asks, and the ways out
 
-  module _ (buffer : List ℕ) (place : ℕ) (reached : place ≤ length buffer) where
-    pub gathered-puts : {from : List ℕ} → from ≡ replicate 16 0 → n * size ≤ length buffer - place →
+-- .. and whether there is no room for them in the buffer from the place on
+pub record Tested (s : List ℕ) (plan : Plan) (first : List ℕ) (t : ℕ) (many : List ℕ) (n : ℕ)
+    (buffer : List ℕ) (place : ℕ) (none : Bool) : Type 0 where
+  pub gathered : Gathered s plan first t many n
+  pub none-is : none ≡ no-room (length buffer) place (n * entry-size)
+
+module _ {s : List ℕ} {plan : Plan} {first : List ℕ} {t : ℕ} {many : List ℕ} {n : ℕ} {buffer : List ℕ} {place : ℕ}
+    {none : Bool} (tested : Tested s plan first t many n buffer place none) where
+  room : none ≡ false → (place ≤ length buffer) × (n * entry-size ≤ length buffer - place)
+  room is = catches-room (length buffer) place (n * entry-size) .passed (sym (tested .none-is) ∙ is)
+
+  pub place-reached : none ≡ false → place ≤ length buffer
+  place-reached is = room is .0
+
+  abbrev list : List ℕ
+  list = bytes-of (overload-list (table-of s) t)
+
+  pub list-refused : none ≡ true →
+      Wrote buffer place (fitted buffer place list) (written.Refused (record { number = 12; index = 0 })) buffer
+  list-refused is =
+      wrote-refused buffer place list (n * entry-size) (gathered-long (tested .gathered)) (sym (tested .none-is) ∙ is)
+
+  module _ {from : List ℕ} (from-are : from ≡ replicate 16 0) where
+    pub tested-puts : none ≡ false →
         Puts (table-of s) (runs-of first many from) n (length (midOf place (length buffer - place) buffer))
-    gathered-puts from-are room =
+    tested-puts is =
+        let all = tested .gathered in
         record {
-          count-is = gathered-count ∙ sym (gathered-list from-are .count-is);
-          fits = rw (lent-tail buffer place reached, length-drop place buffer) room;
-          inside = λ k inside. rw (first-is k inside) (overload-inside good t k inside);
-          near = gathered-near from-are;
+          count-is = gathered-count all ∙ sym (gathered-list all from-are .count-is);
+          fits = rw (lent-tail buffer place (room is .0), length-drop place buffer) (room is .1);
+          inside = λ k inside. rw (first-is all k inside) (overload-inside (good all) t k inside);
+          near = gathered-near all from-are;
         }
 
-    abbrev list : List ℕ
-    list = bytes-of (overload-list (table-of s) t)
-
-    pub list-short : length buffer - place < n * size →
-        Wrote buffer place (placed buffer place list) (written.Refused (record { number = 12; index = 0 })) buffer
-    list-short short = wrote-short buffer place list reached (n * size) gathered-long short
-
-    pub list-whole : {from : List ℕ} → from ≡ replicate 16 0 → (last : List ℕ) → n * size ≤ length buffer - place →
+    pub list-whole : none ≡ false → (last : List ℕ) →
         let put = bytes-of (weave (table-of s) (runs-of first many from)) in
-        last ≡ put ++ drop (n * size) (midOf place (length buffer - place) buffer) →
-        Wrote buffer place (placed buffer place list) (written.Bytes (n * size))
+        last ≡ put ++ drop (n * entry-size) (midOf place (length buffer - place) buffer) →
+        Wrote buffer place (fitted buffer place list) (written.Bytes (n * entry-size))
         (putMid place (length buffer - place) buffer last)
-    list-whole from-are last room last-is =
-        wrote-whole buffer place list reached (n * size) gathered-long last room
-        (rw (bytes-same (gathered-list from-are)) at last-is)
+    list-whole is last last-is =
+        let all = tested .gathered in
+        wrote-whole buffer place list (n * entry-size) (gathered-long all) (sym (tested .none-is) ∙ is) last
+        (rw (bytes-same (gathered-list all from-are)) at last-is)

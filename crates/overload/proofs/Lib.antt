@@ -1,5 +1,3 @@
-pub mod TailLaws
-pub mod PlaceLaws
 pub mod Shown
 pub mod CountLaws
 pub mod ManyLaws

@@ -1,6 +1,6 @@
 -- The loop that writes: the first i requests of the weave are in the bytes, and the lanes stand before request i.
 -- Assumes nothing.
-use mathlib.Core.Path.{_≡_, refl, _∙_, ap}
+use mathlib.Core.Path.{_≡_, refl, _∙_, ap, sym}
 use mathlib.Core.List.{List, _++_}
 use Prim.Native.Nat.{ℕ, _+_, _-_, _*_, _≤_, _<_}
 use native.Mathlib.Numerals.{add-one}
@@ -12,16 +12,15 @@ use Rattle.model.specs.Task.{Table}
 use Rattle.model.specs.Request.{Requests}
 use Rattle.model.specs.Weave.{Runs, taken-by, weave}
 use Rattle.model.proofs.CyclicLaws.{frame-lt}
-use Rattle.table.specs.Bytes.{size}
 use Rattle.table.specs.Ready.{Ready}
 use Rattle.table.specs.TableOf.{table-of}
 use Rattle.table.specs.declared.plan.Plan.{Plan}
 use Rattle.table.proofs.ReadyLaws.{ready-tasks, ready-few}
-use Rattle.requests.specs.Entry.{entry-bytes, bytes-to, bytes-of}
+use Rattle.place.proofs.TailLaws.{lent-tail, one-more}
+use Rattle.requests.specs.Entry.{entry-size, entry-bytes, bytes-to, bytes-of}
 use Rattle.requests.proofs.BytesLaws.{bytes-length}
 use Rattle.overload.specs.Lanes.{runs-of, Puts, front, Movable, moved-on, next-in, Stand}
 use Rattle.overload.specs.declared.lanes.Lanes.{Lanes}
-use Rattle.overload.proofs.TailLaws.{lent-tail, one-more}
 use Rattle.overload.proofs.MoveLaws.{Full, full-on}
 use Rattle.overload.proofs.StandLaws.{stand-start, stand-frame, stand-arrival, turn-known, turn-left, turn-request, turn-stand}
 
@@ -31,9 +30,9 @@ pub record Putting (s : List ℕ) (plan : Plan) (runs : Runs) (n : ℕ) (lent ou
   pub ready : Ready s plan
   pub puts : Puts (table-of s) runs n (length lent)
   pub within : i ≤ n
-  pub at-is : at ≡ i * size
+  pub at-is : at ≡ i * entry-size
   pub long : length out ≡ length lent
-  pub out-is : out ≡ bytes-to (weave (table-of s) runs) i ++ drop (i * size) lent
+  pub out-is : out ≡ bytes-to (weave (table-of s) runs) i ++ drop (i * entry-size) lent
   pub full : Full lanes
   pub stand : Stand (table-of s) runs (taken-by (table-of s) runs i) lanes
 
@@ -56,11 +55,11 @@ putting-start ready puts full =
     }
 
 -- records over the first bytes leave the length as it is
-over-long : (list : Requests) (n : ℕ) (lent : List ℕ) → n * size ≤ length lent
-    → length (bytes-to list n ++ drop (n * size) lent) ≡ length lent
+over-long : (list : Requests) (n : ℕ) (lent : List ℕ) → n * entry-size ≤ length lent
+    → length (bytes-to list n ++ drop (n * entry-size) lent) ≡ length lent
 over-long list n lent fits =
-    length-append (bytes-to list n) (drop (n * size) lent)
-    ∙ omega (arith, bytes-length list n, length-drop (n * size) lent)
+    length-append (bytes-to list n) (drop (n * entry-size) lent)
+    ∙ omega (arith, bytes-length list n, length-drop (n * entry-size) lent)
 
 module _ {s : List ℕ} {plan : Plan} {runs : Runs} {n : ℕ} {lent out : List ℕ} {lanes : Lanes} {at i : ℕ}
     (putting : Putting s plan runs n lent out lanes at i) where
@@ -70,7 +69,7 @@ module _ {s : List ℕ} {plan : Plan} {runs : Runs} {n : ℕ} {lent out : List �
   pub putting-few : plan .tasks ≤ 16
   putting-few = omega (arith, ready-tasks (putting .ready), ready-few (putting .ready))
 
-  pub putting-end : n ≤ i → out ≡ bytes-of (weave table runs) ++ drop (n * size) lent
+  pub putting-end : n ≤ i → out ≡ bytes-of (weave table runs) ++ drop (n * entry-size) lent
   putting-end over = putting .out-is ∙ rw (all, putting .puts .count-is)
     where
       all : i ≡ n
@@ -79,11 +78,11 @@ module _ {s : List ℕ} {plan : Plan} {runs : Runs} {n : ℕ} {lent out : List �
   -- ---- request i is written
 
   module _ (more : i < n) where
-    room : at + size ≤ length out
+    room : at + entry-size ≤ length out
     room = omega (arith, putting .at-is, putting .long, putting .puts .fits)
 
     -- what is lent to its writer has room for it
-    pub putting-lent : size ≤ length (midOf at (length out - at) out)
+    pub putting-lent : entry-size ≤ length (midOf at (length out - at) out)
     putting-lent = rw (lent-tail out at (omega (arith, room)), length-drop) (omega (arith, room))
 
     module _ {k : ℕ} (is : k ≡ front (plan .tasks) lanes) where
@@ -114,20 +113,25 @@ module _ {s : List ℕ} {plan : Plan} {runs : Runs} {n : ℕ} {lent out : List �
                 rw (stand-arrival (putting .stand) k known) (le-of-lt (putting .puts .near k taken known some));
           }
 
-      turn-out : {last : List ℕ} → last ≡ entry-bytes (next-in lanes k) ++ drop size (midOf at (length out - at) out)
-          → putMid at (length out - at) out last ≡ bytes-to (weave table runs) (i + 1) ++ drop ((i + 1) * size) lent
+      turn-out : {last : List ℕ}
+          → last ≡ entry-bytes (next-in lanes k) ++ drop entry-size (midOf at (length out - at) out)
+          → putMid at (length out - at) out last
+          ≡ bytes-to (weave table runs) (i + 1) ++ drop ((i + 1) * entry-size) lent
       unfolding bytes-to
       turn-out {last = last} last-is =
-          one-more lent out last (bytes-to (weave table runs) i) (entry-bytes (next-in lanes k)) i at
-          (putting .at-is) (omega (arith, room)) (bytes-length (weave table runs) i) (putting .out-is) last-is
-          ∙ rw (add-one i, turn-request (putting .stand) listed front-is)
+          let put = bytes-to (weave table runs) i in
+          let far : at + entry-size ≡ (i + 1) * entry-size = omega (arith, putting .at-is) in
+          one-more lent out last put (entry-bytes (next-in lanes k)) at entry-size (omega (arith, room))
+          (bytes-length (weave table runs) i ∙ sym (putting .at-is))
+          (putting .out-is ∙ ap (λ n. put ++ drop n lent) (sym (putting .at-is))) last-is
+          ∙ rw (far, add-one i, turn-request (putting .stand) listed front-is)
 
       pub putting-turn : {last : List ℕ} {moved : Lanes}
-          → last ≡ entry-bytes (next-in lanes k) ++ drop size (midOf at (length out - at) out)
+          → last ≡ entry-bytes (next-in lanes k) ++ drop entry-size (midOf at (length out - at) out)
           → moved ≡ moved-on table lanes k
-          → Putting s plan runs n lent (putMid at (length out - at) out last) moved (at + size) (i + 1)
+          → Putting s plan runs n lent (putMid at (length out - at) out last) moved (at + entry-size) (i + 1)
       putting-turn last-is moved-is =
-          let fits : (i + 1) * size ≤ length lent = omega (arith, putting .puts .fits) in
+          let fits : (i + 1) * entry-size ≤ length lent = omega (arith, putting .puts .fits) in
           record {
             ready = putting .ready;
             puts = putting .puts;

@@ -12,11 +12,11 @@ use Rattle.model.specs.Demand.{frame}
 use Rattle.model.specs.Request.{Request, Has-frame}
 use Rattle.model.specs.Machine.{Order, pick}
 use Rattle.model.specs.Weave.{Runs, earliest, weave}
-use Rattle.table.specs.Bytes.{size}
 use Rattle.table.specs.TableOf.{table-of}
 use Rattle.table.specs.Ready.{Ready}
 use Rattle.table.specs.declared.plan.Plan.{Plan}
 use Rattle.sums.specs.Sized.{ceiling}
+use Rattle.requests.specs.Entry.{entry-size}
 use Rattle.overload.specs.declared.lanes.Lanes.{Lanes}
 
 -- ---- what is asked
@@ -30,7 +30,7 @@ runs-of starts many from =
 -- ceiling
 pub record Puts (table : Table) (runs : Runs) (n room : ℕ) : Type 0 where
   pub count-is : n ≡ weave table runs .count
-  pub fits : n * size ≤ room
+  pub fits : n * entry-size ≤ room
   pub inside : (k : ℕ) → k < table .tasks → runs .start k < table .task k .count
   pub near : (k n : ℕ) → k < table .tasks → n < runs .many k → earliest table runs k n .arrival < ceiling
 

@@ -1,4 +1,3 @@
 pub mod Counts
 pub mod Lanes
-pub mod Place
 pub mod Shows

@@ -10,8 +10,7 @@ use Rattle.model.specs.Jobs.{jobs-of}
 use Rattle.model.specs.Weave.{Woven}
 use Rattle.model.specs.Overload.{overload-runs, overload-list}
 use Rattle.model.specs.Schedule.{due-within}
-use Rattle.table.specs.Bytes.{records}
-use Rattle.requests.specs.Entry.{list-of}
+use Rattle.requests.specs.Entry.{entries, list-of}
 use Rattle.requests.specs.Accepted.{Lawful}
 
 pub record Shows (table : Table) (t : ℕ) (list : List ℕ) : Type 0 where
@@ -26,4 +25,4 @@ pub record Shows (table : Table) (t : ℕ) (list : List ℕ) : Type 0 where
   pub lawful : Lawful table list
   -- its requests that are due by t ask for all of the demand at t
   pub asks : due-within (jobs-of table (list-of list)) 0 t ≡ all-demands table t
-  pub some : 0 < records list
+  pub some : 0 < entries list

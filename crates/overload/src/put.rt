@@ -1,22 +1,21 @@
 // The record writer.
 use crate::lanes::Lanes;
+use requests::entry::ENTRY_SIZE;
 use table::plan::Plan;
-use table::record::SIZE;
 ghost use mathlib.Core.Path.{_≡_};
 ghost use mathlib.Core.List.{_++_};
 ghost use Prim.Native.Nat.{_*_, _≤_, _<_};
 ghost use lib.ListN.{length, drop};
 ghost use Rattle.model.specs.Weave.{weave};
-ghost use Rattle.table.specs.Bytes.{size};
 ghost use Rattle.table.specs.Ready.{Ready};
 ghost use Rattle.table.specs.TableOf.{table-of};
-ghost use Rattle.requests.specs.Entry.{entry-bytes, bytes-of};
+ghost use Rattle.requests.specs.Entry.{entry-size, entry-bytes, bytes-of};
 ghost use Rattle.overload.specs.Lanes.{next-in, runs-of, Puts};
 
 // The next request of task k, at the front of what is lent.
 fn put_next(lanes: Lanes, k: usize, out: &mut [u8])
-    requires { ⌜ (k < 16) × (size ≤ length (now out)) ⌝ }
-    ensures { λ _. ⌜ now (out .exit) ≡ entry-bytes (next-in lanes k) ++ drop size (now (out .entry)) ⌝ }
+    requires { ⌜ (k < 16) × (entry-size ≤ length (now out)) ⌝ }
+    ensures { λ _. ⌜ now (out .exit) ≡ entry-bytes (next-in lanes k) ++ drop entry-size (now (out .entry)) ⌝ }
 {
     let a = lanes.arrival[k];
     out[0] = k as u8;
@@ -43,7 +42,8 @@ pub fn put_all(
     requires { ⌜ Ready (now s) plan × Puts (table-of (now s)) (runs-of starts many from) n (length (now out)) ⌝ }
     ensures { λ _. ⌜
         now (out .exit)
-        ≡ bytes-of (weave (table-of (now (s .entry))) (runs-of starts many from)) ++ drop (n * size) (now (out .entry))
+        ≡ bytes-of (weave (table-of (now (s .entry))) (runs-of starts many from))
+        ++ drop (n * entry-size) (now (out .entry))
         ⌝ }
 {
     let mut lanes = Lanes {
@@ -58,7 +58,7 @@ pub fn put_all(
         let k = crate::lanes::front_of(tasks, lanes);
         put_next(lanes, k, &mut out[at..]);
         lanes = crate::lanes::move_on(s, plan, lanes, k);
-        at += SIZE;
+        at += ENTRY_SIZE;
         i += 1;
     }
 }

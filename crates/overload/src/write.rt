@@ -1,21 +1,15 @@
 // The writer of the overload list: refusal 12.
+use place::written::Written;
+use requests::entry::ENTRY_SIZE;
 use table::plan::Plan;
-use table::reader::Refusal;
-use table::record::SIZE;
 ghost use mathlib.Core.Path.{_≡_};
 ghost use Prim.Native.Nat.{_≤_};
 ghost use lib.ListN.{length};
 ghost use Rattle.model.specs.Overload.{overload-list};
 ghost use Rattle.table.specs.TableOf.{table-of};
 ghost use Rattle.requests.specs.Entry.{widest, bytes-of};
+ghost use Rattle.place.specs.Place.{fitted, Wrote};
 ghost use Rattle.overload.specs.Counts.{Asked, Totalled};
-ghost use Rattle.overload.specs.Place.{placed, Wrote};
-
-// How many bytes were written, or the refusal.
-pub enum Written {
-    Bytes(usize),
-    Refused(Refusal),
-}
 
 // 32 bits as 64, with the bound that a sum of sixteen asks.
 fn wide(x: u32) -> usize
@@ -44,7 +38,7 @@ pub fn list_size(s: &[u8], plan: Plan, starts: [u8; 16], t: u64) -> usize
     ensures { λ r. ⌜ r ≡ length (bytes-of (overload-list (table-of (now (s .entry))) t)) ⌝ }
 {
     let many = crate::count::count_all(s, plan, starts, t);
-    total_of(plan.tasks, many) * SIZE
+    total_of(plan.tasks, many) * ENTRY_SIZE
 }
 
 // The list of the overload at t, from a place of the buffer on, where `starts` are the start frames.
@@ -59,26 +53,17 @@ pub fn write_list<'a, 'b>(
     requires { ⌜ Asked (now s) plan starts t ⌝ }
     ensures { λ r. ⌜
         Wrote (now (buffer .entry)) place
-        (placed (now (buffer .entry)) place (bytes-of (overload-list (table-of (now (s .entry))) t))) r
+        (fitted (now (buffer .entry)) place (bytes-of (overload-list (table-of (now (s .entry))) t))) r
         (now (buffer .exit))
         ⌝ }
 {
     let many = crate::count::count_all(s, plan, starts, t);
     let n = total_of(plan.tasks, many);
-    if buffer.len() < place {
-        return Written::Refused(Refusal {
-            number: 12,
-            index: 0,
-        });
-    }
-    if buffer.len() - place < n * SIZE {
-        return Written::Refused(Refusal {
-            number: 12,
-            index: 0,
-        });
+    if place::written::has_no_room(buffer.len(), place, n * ENTRY_SIZE) {
+        return Written::Refused(place::written::NO_ROOM);
     }
     // every task's first request arrives at 0
     let from = [0u32; 16];
     crate::put::put_all(s, plan, starts, many, from, n, &mut buffer[place..]);
-    Written::Bytes(n * SIZE)
+    Written::Bytes(n * ENTRY_SIZE)
 }

@@ -20,8 +20,8 @@ use Rattle.table.specs.TableReader.{reading-of}
 use Rattle.table.specs.TableOf.{records-before, records-of, task-of}
 use Rattle.requests.specs.Entry.{entry-of, bytes-to}
 use Rattle.requests.specs.ListReader.{check-of}
-use Rattle.overload.specs.Place.{placed}
-use Rattle.response.specs.Deadlines.{first-above}
+use Rattle.place.specs.Place.{fitted}
+use Rattle.table.specs.Deadlines.{first-above}
 use Rattle.desk.specs.Questions.{demand-asked, work-asked, margin-asked, verdict-asked, response-asked, overload-asked}
 use Rattle.desk.specs.ListQuestions.{replay-asked}
 use Rattle.promise.specs.Tables.{A, B, twenty}
@@ -56,7 +56,7 @@ unfolding cases right is-refused gets is-byte every same-answer A B twenty times
     reading-of read-all read-on record-of records-before records-of task-of
     check-of entry-of last-arrival first-above horizon sum least-from frame
     verdict first-overload overloads overloaded-at demand all-demands greatest counted offset lowest
-    placed overload-list weave next-at taken-by foremost requests-by up-to-last bytes-to
+    fitted overload-list weave next-at taken-by foremost requests-by up-to-last bytes-to
 all-right = tt
 
 pub cases-given : Cases-given

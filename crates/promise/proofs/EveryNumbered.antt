@@ -45,7 +45,7 @@ module _ (s : List ℕ) where
       elim (bad .list-bad) [
         | inl long ↦ let is = long .number-is in record { from = omega arith; to = omega arith }
         | inr broken ↦
-            is-one number (breaks-number (l, index) numbers-one (Lists.rules _) refl number 0 (broken .breaks))
+            is-one number (breaks-number (l, index) numbers-one (Lists.rules _ _) refl number 0 (broken .breaks))
       ]
 
   pub order-numbered : (order : Order) → all-numbers numbers-one order ≡ true → (number index : ℕ)

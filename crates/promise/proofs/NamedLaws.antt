@@ -27,7 +27,7 @@ use Rattle.requests.specs.ListReader.{check-of}
 use Rattle.bench.specs.Rule.{first-late, first-left, next-in, tick-of}
 use Rattle.bench.specs.Loaded.{slots-of, loaded}
 use Rattle.bench.proofs.SwiftRun.{run-stops, replay-stops}
-use Rattle.response.specs.Deadlines.{first-above}
+use Rattle.table.specs.Deadlines.{first-above}
 use Rattle.desk.specs.Questions.{demand-asked, response-asked}
 use Rattle.promise.specs.Tables.{A, B, B-list, F, K7-task, four, twenty}
 use Rattle.promise.specs.Named.{Named, Is-said, named, values, Named-right, K2, K4, K4-list, K4-place-2, K4-place-5, K5, K6, K8-task-3}

@@ -24,7 +24,7 @@ use Rattle.table.specs.WellFormed.{WellFormed}
 use Rattle.table.proofs.TaskLaws.{well-proper}
 use Rattle.requests.specs.Entry.{list-of}
 use Rattle.requests.specs.Accepted.{Accepted}
-use Rattle.response.specs.Deadlines.{Within-P}
+use Rattle.table.specs.Deadlines.{Within-P}
 use Rattle.desk.specs.Orders.{table-only, time-order, task-order, frame-order}
 use Rattle.desk.specs.Questions.{read-asked, one-task, demand-asked, work-asked, margin-asked, window-asked, response-asked}
 use Rattle.desk.specs.ListQuestions.{counts, replays, list-asked}

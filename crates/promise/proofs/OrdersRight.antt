@@ -8,7 +8,7 @@ use mathlib.Core.Path.{_≡_, refl, sym, ap, _∙_}
 use lib.ListN.{length}
 use Rattle.laws.specs.Search.{Found, at, nowhere, place-or}
 use Rattle.laws.proofs.LadderLaws.{Points, Caught, rung}
-use Rattle.laws.proofs.Tests.{Catches, catches-as, catches-or, catches-lt, catches-le}
+use Rattle.laws.proofs.Tests.{Catches, catches-as, catches-lt, catches-le}
 use Rattle.model.specs.Verdict.{horizon, Verdict, overloaded, fits, undecided, verdict}
 use Rattle.model.specs.VerdictMeaning.{Calm, Means}
 use Rattle.model.proofs.ClosingLaws.{is-below, is-not-below}
@@ -18,9 +18,10 @@ use Rattle.table.specs.Bytes.{Bytes, records}
 use Rattle.table.specs.TableOf.{table-of}
 use Rattle.table.specs.WellFormed.{WellFormed}
 use Rattle.table.proofs.TaskLaws.{well-proper}
-use Rattle.overload.specs.Place.{no-room}
-use Rattle.response.specs.Deadlines.{first-above, Within-P, First-above}
-use Rattle.response.proofs.DeadlineLaws.{Above-told, first-above-is, above-told}
+use Rattle.place.specs.Place.{no-room}
+use Rattle.place.proofs.PlaceLaws.{catches-room}
+use Rattle.table.specs.Deadlines.{first-above, Within-P, First-above}
+use Rattle.table.proofs.DeadlineLaws.{Above-told, first-above-is, above-told}
 use Rattle.desk.specs.Orders.{time-order, task-order, frame-order, size-order, writing-order, is-found, Overloaded-at, is-calm, list-at, list-in, t-in}
 use Rattle.promise.proofs.OverloadVerdicts.{over-at, over-verdict}
 
@@ -96,7 +97,7 @@ module _ (s : List ℕ) (bytes : Bytes s) (well : WellFormed s) where
       ap (λ v. length (list-at (table-of s) (t-in v))) (over-verdict (well-proper bytes well) over)
 
   room-catches : (buffer : List ℕ) (place : ℕ) → (t : ℕ) × Overloaded-at (table-of s) t
-      → Catches (no-room buffer place (list-in (table-of s)))
+      → Catches (no-room (length buffer) place (length (list-in (table-of s))))
       ((t : ℕ) → Overloaded-at (table-of s) t → place + length (list-at (table-of s) t) ≤ length buffer)
   room-catches buffer place (t, over) =
       catches-as
@@ -105,8 +106,7 @@ module _ (s : List ℕ) (bytes : Bytes s) (well : WellFormed s) where
       let close : place ≤ length buffer = near in
       omega (arith, long-is k at-k))
       (λ room. let enough = room t over in (omega arith, omega (arith, long-is t over)))
-      (catches-or (catches-lt (length buffer) place)
-      (catches-lt (length buffer - place) (length (list-in (table-of s)))))
+      (catches-room (length buffer) place (length (list-in (table-of s))))
 
   pub writing-right : (buffer : List ℕ) (place : ℕ) → Caught (writing-order buffer place) s s
   writing-right buffer place = rung calm-catches (λ over. rung (room-catches buffer place over) (λ room. tt))

@@ -16,7 +16,7 @@ use Rattle.model.proofs.WalkLaws.{walk, walk-is}
 use Rattle.table.specs.Bytes.{Bytes}
 use Rattle.table.proofs.TaskLaws.{well-proper}
 use Rattle.bench.proofs.SwiftRun.{replay-stops, replay-stops-is}
-use Rattle.overload.specs.Place.{no-room, buffer-after}
+use Rattle.place.specs.Place.{no-room, buffer-after}
 use Rattle.desk.specs.Orders.{list-at, is-calm, t-in}
 use Rattle.desk.specs.Questions.{on-table, verdict-asked, size-asked, overload-asked}
 use Rattle.desk.specs.ListQuestions.{on-list, replay-asked}
@@ -44,7 +44,7 @@ unfoldable pub by-verdict : {A : Type 0} → Verdict → (ℕ → Answer A) → 
 by-verdict v ask = cond (is-calm v) (refused 13 0) (ask (t-in v))
 
 unfoldable pub room-or : List ℕ → ℕ → List ℕ → Answer (List ℕ)
-room-or buffer place l = cond (no-room buffer place l) (refused 12 0) (answered l)
+room-or buffer place l = cond (no-room (length buffer) place (length l)) (refused 12 0) (answered l)
 
 abbrev pub sizes : Table → Verdict → Answer ℕ
 sizes table v = by-verdict v (λ t. answered (length (list-at table t)))

@@ -14,7 +14,7 @@ use Rattle.model.specs.Answer.{answered}
 use Rattle.table.specs.Bytes.{record-of}
 use Rattle.table.specs.TableReader.{reading-of}
 use Rattle.table.specs.TableOf.{records-before, records-of, task-of}
-use Rattle.response.specs.Deadlines.{first-above}
+use Rattle.table.specs.Deadlines.{first-above}
 use Rattle.desk.specs.Orders.{writing-order}
 use Rattle.desk.specs.Questions.{response-asked}
 use Rattle.promise.specs.Tables.{A, B, B-list}

@@ -15,7 +15,7 @@ use Rattle.table.specs.Bytes.{Bytes}
 use Rattle.table.specs.TableOf.{table-of}
 use Rattle.table.specs.WellFormed.{WellFormed}
 use Rattle.table.proofs.TaskLaws.{well-proper}
-use Rattle.overload.specs.Place.{buffer-after}
+use Rattle.place.specs.Place.{buffer-after}
 use Rattle.overload.specs.Shows.{Shows}
 use Rattle.overload.proofs.Shown.{list-shows}
 use Rattle.desk.specs.Orders.{size-order, writing-order, Overloaded-at, list-at, list-in, t-in}

@@ -8,7 +8,7 @@ use native.Mathlib.Omega.{arith}
 use lib.ListN.{take, drop}
 use Rattle.model.specs.Answer.{Answer, answered, refused}
 use Rattle.table.specs.Bytes.{Bytes}
-use Rattle.overload.specs.Place.{buffer-after}
+use Rattle.place.specs.Place.{buffer-after}
 use Rattle.desk.specs.declared.answers.Written.{Written}
 use Rattle.desk.specs.Questions.{overload-asked}
 use Rattle.desk.specs.FlatList.{flat-written, Flat-wrote}

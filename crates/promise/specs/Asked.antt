@@ -15,7 +15,7 @@ use Rattle.model.specs.Verdict as Judge
 use Rattle.model.specs.Answer.{Answer}
 use Rattle.table.specs.Bytes.{records}
 use Rattle.requests.specs.Entry.{list-of}
-use Rattle.overload.specs.Place.{buffer-after}
+use Rattle.place.specs.Place.{buffer-after}
 use Rattle.desk.specs.Orders.{Order, table-only, time-order, task-order, frame-order, size-order, writing-order, list-in}
 use Rattle.desk.specs.Questions.{read-asked, demand-asked, work-asked, margin-asked, window-asked, verdict-asked, response-asked, size-asked, overload-asked}
 use Rattle.desk.specs.ListQuestions.{counts, loads, replays, list-asked, load-asked, replay-asked}

@@ -7,9 +7,8 @@ use Rattle.model.specs.Jobs.{jobs-of}
 use Rattle.model.specs.Machine.{sooner}
 use Rattle.model.specs.Replay.{last-tick}
 use Rattle.model.specs.Answer.{answered}
-use Rattle.table.specs.Bytes.{records}
 use Rattle.table.specs.TableOf.{table-of}
-use Rattle.requests.specs.Entry.{list-of}
+use Rattle.requests.specs.Entry.{entries, list-of}
 use Rattle.bench.specs.declared.state.Bench.{Bench}
 use Rattle.bench.specs.declared.state.Outcome.the-variants.{Running}
 use Rattle.bench.specs.Rule.{tick-of, run-of}
@@ -30,7 +29,7 @@ pub record Ticks-rightly (b : Bench) : Type 0 where
 -- a bench that is loaded with the list
 pub record Loaded-rightly (s list : List ℕ) : Type 0 where
   pub bench : Bench
-  pub is : load-asked s list ≡ answered (record { records = records list; bench = bench })
+  pub is : load-asked s list ≡ answered (record { records = entries list; bench = bench })
   -- after n ticks, of the 131,071 that a run may have, while it runs it holds what the machine has left
   pub holds : (n : ℕ) → n ≤ suc last-tick → run-of n bench .outcome ≡ Running
       → let jobs = jobs-of (table-of s) (list-of list) in

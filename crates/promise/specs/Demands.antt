@@ -12,7 +12,7 @@ use Rattle.model.specs.Answer.{answered}
 use Rattle.table.specs.Bytes.{Bytes}
 use Rattle.table.specs.WellFormed.{WellFormed}
 use Rattle.table.specs.declared.reader.Shape.{Shape}
-use Rattle.overload.specs.Place.{buffer-after}
+use Rattle.place.specs.Place.{buffer-after}
 use Rattle.bench.specs.declared.state.Bench.{Bench}
 use Rattle.desk.specs.Questions.{read-asked, verdict-asked, overload-asked}
 use Rattle.promise.specs.Asked.{Question, row}

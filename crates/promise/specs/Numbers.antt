@@ -19,9 +19,9 @@ use Rattle.model.specs.ResponseMeaning as Recurrence
 use Rattle.model.specs.Answer.{answered}
 use Rattle.table.specs.Bytes.{records}
 use Rattle.table.specs.TableOf.{table-of}
-use Rattle.requests.specs.Entry.{list-of}
+use Rattle.requests.specs.Entry.{entries, list-of}
 use Rattle.requests.specs.Accepted.{Accepted}
-use Rattle.response.specs.Deadlines.{Within-P}
+use Rattle.table.specs.Deadlines.{Within-P}
 use Rattle.desk.specs.Questions.{read-asked, demand-asked, work-asked, margin-asked, window-asked, verdict-asked, response-asked}
 use Rattle.desk.specs.ListQuestions.{list-asked, replay-asked}
 use Rattle.promise.specs.Bench.{Loaded-rightly}
@@ -56,7 +56,7 @@ pub record Numbers (s : List ℕ) : Type 0 where
       → Recurrence.Says (higher-share (table-of s) k) (table-of s .task k .E i) (table-of s .task k .D i) r
       → response-asked s k i ≡ answered r
   -- of bytes that are a list of the table
-  pub counts : (list : List ℕ) → Accepted (table-of s) list → list-asked s list ≡ answered (records list)
+  pub counts : (list : List ℕ) → Accepted (table-of s) list → list-asked s list ≡ answered (entries list)
   pub loads : (list : List ℕ) → Accepted (table-of s) list → Loaded-rightly s list
   pub replays : (list : List ℕ) → Accepted (table-of s) list → Replayed-rightly s list
   pub replays-only : (list : List ℕ) (r : Replayed) → Accepted (table-of s) list

@@ -17,9 +17,8 @@ use Rattle.model.specs.Service.{machine-serves}
 use Rattle.model.specs.Weave.{Woven}
 use Rattle.model.specs.Overload.{overload-runs}
 use Rattle.model.specs.Answer.{answered}
-use Rattle.table.specs.Bytes.{size}
 use Rattle.table.specs.TableOf.{table-of}
-use Rattle.requests.specs.Entry.{most-requests, list-of}
+use Rattle.requests.specs.Entry.{entry-size, most-requests, list-of}
 use Rattle.requests.specs.Accepted.{Lawful, Accepted}
 use Rattle.desk.specs.declared.answers.Written.{Written}
 use Rattle.desk.specs.Questions.{verdict-asked, size-asked, overload-asked}
@@ -84,7 +83,7 @@ pub record Overload-shown (s : List ℕ) (t : ℕ) : Type 0 where
   pub no-schedule : No-schedule (table-of s) (list-of list)
   -- the bench's rules 10 and 11, but for its limit of 128 records
   pub lawful : Lawful (table-of s) list
-  pub taken : length list ≤ most-requests * size → Accepted (table-of s) list
+  pub taken : length list ≤ most-requests * entry-size → Accepted (table-of s) list
   pub replays : Accepted (table-of s) list → Replays-missed s list
 
 -- ---- undecided: "only when no interval up to the limit is overloaded and no window up to the limit closes"

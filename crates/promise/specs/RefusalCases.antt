@@ -4,7 +4,7 @@
 -- Assumes nothing.
 use mathlib.Core.List.{List, [], _∷_, _++_}
 use Prim.Native.Nat.{ℕ, zero, suc, _≤_, _<_}
-use lib.ListN.{length, getD}
+use lib.ListN.{length, getD, set}
 use Rattle.promise.specs.Tables.{rec, sporadic, A, B, req, twenty}
 use Rattle.promise.specs.Asked.{Question, demand, work, margin, verdict, replay, overload, response, row}
 
@@ -76,8 +76,8 @@ cases =
     -- 10: "list length not a multiple of 8 or above 1,024 (index 0)"
     ∷ no-list (0 ∷ []) 10 0 ∷ no-list (times 129 (req 0 0 0)) 10 0
     -- ".. pad not zero, unknown task or frame, arrival too large, order broken"
-    ∷ no-list (0 ∷ 0 ∷ 1 ∷ 0 ∷ 0 ∷ 0 ∷ 0 ∷ 0 ∷ []) 10 0 ∷ no-list (req 2 0 0) 10 0 ∷ no-list (req 1 1 0) 10 0
-    ∷ no-list (0 ∷ 0 ∷ 0 ∷ 0 ∷ 0 ∷ 0 ∷ 1 ∷ 0 ∷ []) 10 0 ∷ no-list (req 1 0 0 ++ req 0 0 0) 10 1
+    ∷ no-list (set (req 0 0 0) 2 1) 10 0 ∷ no-list (req 2 0 0) 10 0 ∷ no-list (req 1 1 0) 10 0
+    ∷ no-list (set (req 0 0 0) 6 1) 10 0 ∷ no-list (req 1 0 0 ++ req 0 0 0) 10 1
     -- 11: "next request has the wrong frame or comes too soon"; "10 before 11"
     ∷ no-list (req 0 0 0 ++ req 0 2 3) 11 1 ∷ no-list (req 0 0 0 ++ req 0 1 2) 11 1
     ∷ no-list (req 0 0 1 ++ req 0 2 0) 10 1

@@ -1,11 +1,12 @@
 -- The tables and lists that document 01 names, "Numbers to hold it to", as bytes.
 -- Assumes nothing.
 use mathlib.Core.List.{List, [], _∷_, _++_}
-use Prim.Native.Nat.{ℕ}
+use Prim.Native.Nat.{ℕ, _/_, _%_}
 
--- one record: task, kind, E, D, P, each of these below 256
+-- one record, of which every table here is made: "E, D, P, each 16 bits, low byte first". Where one of them is at most
+-- 65,535, its second byte is all that is left
 abbrev pub rec : ℕ → ℕ → ℕ → ℕ → ℕ → List ℕ
-rec task kind e d p = task ∷ kind ∷ e ∷ 0 ∷ d ∷ 0 ∷ p ∷ 0 ∷ []
+rec task kind e d p = task ∷ kind ∷ e % 256 ∷ e / 256 ∷ d % 256 ∷ d / 256 ∷ p % 256 ∷ p / 256 ∷ []
 
 -- "A is task 0, kind 3 .. E 1,2,5,1; D 2,2,8,5; P 3,2,3,4."
 unfoldable pub A : List ℕ
@@ -33,26 +34,24 @@ F =
 unfoldable pub K7-task : List ℕ
 K7-task = rec 0 3 2 2 2 ++ rec 0 3 1 20 1 ++ rec 0 3 2 2 10
 
--- (E,65535,1), E by its two bytes: "(2,65535,1) is undecided"
-abbrev pub each-tick : ℕ → ℕ → List ℕ
-each-tick low high = 0 ∷ 1 ∷ low ∷ high ∷ 255 ∷ 255 ∷ 1 ∷ 0 ∷ []
-
+-- "(2,65535,1) is undecided"
 unfoldable pub each-2 : List ℕ
-each-2 = each-tick 2 0
+each-2 = sporadic 0 2 65535 1
 
 -- "(21846,65535,1) is undecided"
 unfoldable pub each-21846 : List ℕ
-each-21846 = each-tick 86 85
+each-21846 = sporadic 0 21846 65535 1
 
 -- "(32769,65535,1) is overloaded at 65,536, margin -2."
 unfoldable pub each-32769 : List ℕ
-each-32769 = each-tick 1 128
+each-32769 = sporadic 0 32769 65535 1
 
 -- "(65535,65535,65535) fits: window 65,535, margin 0 there."
 unfoldable pub longest : List ℕ
-longest = 0 ∷ 1 ∷ 255 ∷ 255 ∷ 255 ∷ 255 ∷ 255 ∷ 255 ∷ []
+longest = sporadic 0 65535 65535 65535
 
--- one request: task, frame, an arrival below 256
+-- one request, of which every list here is made: task, frame, an arrival below 256. Written out, and not by
+-- `entry-bytes`, so that a row with a list says which bytes those are
 abbrev pub req : ℕ → ℕ → ℕ → List ℕ
 req task frame arrival = task ∷ frame ∷ 0 ∷ 0 ∷ arrival ∷ 0 ∷ 0 ∷ 0 ∷ []
 

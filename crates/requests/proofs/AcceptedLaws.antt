@@ -8,10 +8,9 @@ use lib.ListN.{length}
 use native.Mathlib.Omega.{arith}
 use Rattle.model.specs.Task.{Table}
 use Rattle.model.specs.Request.{Legal, Sorted, last-arrival}
-use Rattle.table.specs.Bytes.{size, records}
 use Rattle.table.specs.TableOf.{table-of}
 use Rattle.requests.specs.declared.list_reader.Checked.the-variants as checked
-use Rattle.requests.specs.Entry.{most-requests, entry-of, list-of}
+use Rattle.requests.specs.Entry.{entry-size, entries, most-requests, entry-of, list-of}
 use Rattle.requests.specs.ListRules.{Placed}
 use Rattle.requests.specs.ListReader.{check-of}
 use Rattle.requests.specs.Accepted.{Good, Accepted, In-rule, Listed}
@@ -31,13 +30,13 @@ module _ {table : Table} {s : List ℕ} (accepted : Accepted table s) where
   pub accepted-sorted : Sorted (list-of s)
   accepted-sorted i j before within = accepted .good j within .in-place .ordered i before
 
-  pub accepted-few : records s ≤ most-requests
+  pub accepted-few : entries s ≤ most-requests
   accepted-few = right-few (accepted .long)
 
-  pub accepted-pads : (i : ℕ) → i < records s → entry-of s i .pad ≡ 0
+  pub accepted-pads : (i : ℕ) → i < entries s → entry-of s i .pad ≡ 0
   accepted-pads i within = accepted .good i within .in-place .pad
 
-  pub accepted-near : (i : ℕ) → i < records s → list-of s .request i .arrival ≤ last-arrival
+  pub accepted-near : (i : ℕ) → i < entries s → list-of s .request i .arrival ≤ last-arrival
   accepted-near i within = accepted .good i within .in-place .near
 
 pub accepted-in-rule : {table : Table} {s : List ℕ} → Accepted table s → In-rule table s
@@ -51,10 +50,10 @@ accepted-in-rule accepted =
     }
 
 -- and back: these are all that is asked, record by record
-module _ {table : Table} {s : List ℕ} (pads : (i : ℕ) → i < records s → entry-of s i .pad ≡ 0)
+module _ {last : ℕ} {table : Table} {s : List ℕ} (pads : (i : ℕ) → i < entries s → entry-of s i .pad ≡ 0)
     (legal : Legal table (list-of s)) (sorted : Sorted (list-of s))
-    (near : (i : ℕ) → i < records s → list-of s .request i .arrival ≤ last-arrival) where
-  pub rules-good : (j : ℕ) → j < records s → Good table s j
+    (near : (i : ℕ) → i < entries s → list-of s .request i .arrival ≤ last) where
+  pub rules-good : (j : ℕ) → j < entries s → Good last table s j
   rules-good j within =
       record {
         in-place =
@@ -74,10 +73,10 @@ in-rule-accepted rules =
 -- ---- what a caller that has checked a list knows
 
 -- a record of the list is whole
-pub entry-room : (s : List ℕ) (j : ℕ) → j < records s → (j + 1) * size ≤ length s
+pub entry-room : (s : List ℕ) (j : ℕ) → j < entries s → (j + 1) * entry-size ≤ length s
 entry-room s j within = omega arith
 
-pub accepted-placed : {s list : List ℕ} → Accepted (table-of s) list → (j : ℕ) → j < records list →
+pub accepted-placed : {s list : List ℕ} → Accepted (table-of s) list → (j : ℕ) → j < entries list →
     Placed s (entry-of list j)
 accepted-placed accepted j within =
     let place = accepted .good j within .in-place in record { known = place .known; near = place .near }

@@ -9,10 +9,9 @@ use lib.Seq.{getD-append-add}
 use native.Mathlib.Omega.{arith}
 use Rattle.laws.proofs.Cases.{lt-or-le}
 use Rattle.model.specs.Request.{Requests, Same}
-use Rattle.table.specs.Bytes.{size}
-use Rattle.requests.specs.Entry.{entry-of, request-in, list-of, widest, entry-bytes, bytes-to, bytes-of}
+use Rattle.requests.specs.Entry.{entry-size, entry-of, request-in, list-of, widest, entry-bytes, bytes-to, bytes-of}
 
-pub bytes-length : (list : Requests) (n : ℕ) → length (bytes-to list n) ≡ n * size
+pub bytes-length : (list : Requests) (n : ℕ) → length (bytes-to list n) ≡ n * entry-size
 unfolding bytes-to
 bytes-length list zero = refl
 bytes-length list (suc n) = simp (length-append, bytes-length list n) (omega arith)
@@ -33,7 +32,7 @@ bytes-same {list} {other} same =
 -- ---- one record
 
 -- the byte at a place of record i
-byte-at : (list : Requests) (n i : ℕ) → i < n → (at place : ℕ) → at ≡ i * size + place → place < size →
+byte-at : (list : Requests) (n i : ℕ) → i < n → (at place : ℕ) → at ≡ i * entry-size + place → place < entry-size →
     getD (bytes-to list n) at 0 ≡ getD (entry-bytes (list .request i)) place 0
 unfolding bytes-to
 byte-at list zero i within at place is inside = absurd (omega arith)
@@ -62,7 +61,7 @@ module _ (list : Requests) (short : (i : ℕ) → i < list .count → list .requ
   unfolding entry-of
   entry-back i within =
       let byte = byte-at list (list .count) i within in
-      let a = i * size in
+      let a = i * entry-size in
       rw (
         byte a 0 (omega arith) (omega arith),
         byte (a + 1) 1 refl (omega arith),

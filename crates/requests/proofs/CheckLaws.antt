@@ -11,10 +11,10 @@ use Rattle.laws.specs.Reader.{whole, stopped, read-all}
 use Rattle.laws.proofs.LadderLaws.{climb-kept, climb-broken, keeps-or-named}
 use Rattle.laws.proofs.ReaderExact.{Rules}
 use Rattle.model.specs.Task.{Table}
-use Rattle.table.specs.Bytes.{records}
+use Rattle.model.specs.Request.{last-arrival}
 use Rattle.requests.specs.declared.list_rules.SoFar.{SoFar}
 use Rattle.requests.specs.declared.list_reader.Checked.the-variants.{Legal, Refused}
-use Rattle.requests.specs.Entry.{entry-of}
+use Rattle.requests.specs.Entry.{entries, entry-of}
 use Rattle.requests.specs.Accepted.{Length-right, rules, Good}
 use Rattle.requests.specs.ListReader.{reader-of, check-of}
 use Rattle.requests.specs.ListRefusals.{Breaks}
@@ -32,7 +32,7 @@ module _ (table : Table) (s : List ℕ) where
   unfolding check-of
   check-stopped is = sym (rw is)
 
-  pub check-whole : {b : SoFar} → read-all (reader-of table s) ≡ whole b → {n : ℕ} → n ≡ records s →
+  pub check-whole : {b : SoFar} → read-all (reader-of table s) ≡ whole b → {n : ℕ} → n ≡ entries s →
       Legal n ≡ check-of table s
   unfolding check-of
   check-whole is all = sym (rw (is, all))
@@ -41,24 +41,25 @@ module _ (table : Table) (s : List ℕ) where
 
 abbrev pub rules-of : (table : Table) → table .tasks ≤ 16 → (s : List ℕ) → Rules (reader-of table s)
 rules-of table few s =
+    let last = last-arrival in
     record {
       Long = Length-right (length s);
-      Good = Good table s;
-      Breaks = Breaks table s;
+      Good = Good last table s;
+      Breaks = Breaks last table s;
       Known = Carried table s;
       long = catches-length (length s);
       start = carried-start s few;
       next = λ i b carried good. carried-next carried (omega (arith, few, good .in-place .known .task));
       passes = λ i b carried good.
-          climb-kept (λ number index. number) (b, entry-of s i) (s, i) 0 (rules table) (rules-caught carried)
-          (good-keeps good);
+          climb-kept (λ number index. number) (b, entry-of s i) (s, i) 0 (rules last table)
+          (rules-caught carried last) (good-keeps good);
       stops = λ i b number carried breaks.
-          climb-broken (λ number index. number) (b, entry-of s i) (s, i) 0 (rules table) number 0
-          (rules-caught carried) breaks;
-      numbered = breaks-some table s;
+          climb-broken (λ number index. number) (b, entry-of s i) (s, i) 0 (rules last table) number 0
+          (rules-caught carried last) breaks;
+      numbered = breaks-some last table s;
       either = λ i b carried.
-          elim (keeps-or-named (b, entry-of s i) (s, i) (rules table) refl (rules-caught carried)) [
-            | inl keeps ↦ inl (keeps-good table s i keeps)
+          elim (keeps-or-named (b, entry-of s i) (s, i) (rules last table) refl (rules-caught carried last)) [
+            | inl keeps ↦ inl (keeps-good last table s i keeps)
             | inr breaks ↦ inr breaks
           ];
     }

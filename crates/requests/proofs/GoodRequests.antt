@@ -11,12 +11,13 @@ use Rattle.model.specs.Task.{Table}
 use Rattle.requests.specs.Accepted.{rules, Good}
 use Rattle.requests.specs.ListRefusals.{Breaks}
 
-pub good-keeps : {table : Table} {s : List ℕ} {j : ℕ} → Good table s j → Keeps (rules table) (s, j)
+pub good-keeps : {last : ℕ} {table : Table} {s : List ℕ} {j : ℕ} → Good last table s j
+    → Keeps (rules last table) (s, j)
 good-keeps good = (good .in-place, (good .in-turn, tt))
 
-module _ (table : Table) (s : List ℕ) (j : ℕ) where
-  pub keeps-good : Keeps (rules table) (s, j) → Good table s j
+module _ (last : ℕ) (table : Table) (s : List ℕ) (j : ℕ) where
+  pub keeps-good : Keeps (rules last table) (s, j) → Good last table s j
   keeps-good (in-place, (in-turn, all)) = record { in-place = in-place; in-turn = in-turn }
 
-  pub breaks-some : Breaks table s j 0 → ⊥
-  breaks-some breaks = false≢true (breaks-number (s, j) (ltb 0) (rules table) refl 0 0 breaks)
+  pub breaks-some : Breaks last table s j 0 → ⊥
+  breaks-some breaks = false≢true (breaks-number (s, j) (ltb 0) (rules last table) refl 0 0 breaks)

@@ -9,8 +9,7 @@ use native.Mathlib.Omega.{arith}
 use Rattle.model.specs.Task.{Table}
 use Rattle.model.specs.Request.{Request, Requests, Legal, Sorted, last-arrival}
 use Rattle.model.proofs.WovenLegal.{same-legal, same-sorted}
-use Rattle.table.specs.Bytes.{size, records}
-use Rattle.requests.specs.Entry.{most-requests, widest, bytes-of}
+use Rattle.requests.specs.Entry.{entry-size, entries, most-requests, widest, bytes-of}
 use Rattle.requests.specs.Accepted.{Lawful, Accepted}
 use Rattle.requests.proofs.AcceptedLaws.{rules-good}
 use Rattle.requests.proofs.BytesLaws.{bytes-length, read-back, pads-zero}
@@ -27,7 +26,7 @@ module _ {table : Table} (list : Requests) (legal : Legal table list) (sorted : 
   pub written-lawful : Lawful table (bytes-of list)
   written-lawful =
       let same = read-back list short in
-      let there : (i : ℕ) → i < records (bytes-of list) → i < list .count = λ i within. omega (arith, same .count-is) in
+      let there : (i : ℕ) → i < entries (bytes-of list) → i < list .count = λ i within. omega (arith, same .count-is) in
       record {
         whole = omega (arith, bytes-length list (list .count));
         good =
@@ -42,6 +41,6 @@ module _ {table : Table} (list : Requests) (legal : Legal table list) (sorted : 
 
 -- ---- the limit of 128 records
 
-pub lawful-accepted : {table : Table} {s : List ℕ} → Lawful table s → length s ≤ most-requests * size
+pub lawful-accepted : {table : Table} {s : List ℕ} → Lawful table s → length s ≤ most-requests * entry-size
     → Accepted table s
 lawful-accepted lawful few = record { long = record { few = few; whole = lawful .whole }; good = lawful .good }

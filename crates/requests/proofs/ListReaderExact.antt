@@ -7,12 +7,12 @@ use mathlib.Core.List.{List}
 use Rattle.laws.specs.Reader.{Read, whole, stopped, read-all}
 use Rattle.laws.proofs.ReaderExact.{Said, said, faultless-read, faulty-read}
 use Rattle.model.specs.Task.{Table}
-use Rattle.table.specs.Bytes.{records}
 use Rattle.table.specs.declared.reader.Refusal.{Refusal}
 use Rattle.requests.specs.declared.list_rules.SoFar.{SoFar}
 use Rattle.requests.specs.declared.list_reader.Checked.{Checked}
 use Rattle.requests.specs.declared.list_reader.Checked.the-variants.{Legal, Refused}
 use Rattle.requests.specs.ListReader.{reader-of, checked-in, check-of}
+use Rattle.requests.specs.Entry.{entries}
 use Rattle.requests.specs.Accepted.{Accepted}
 use Rattle.requests.specs.ListRefusals.{Refused-with}
 use Rattle.requests.proofs.CheckLaws.{check-stopped, check-whole, rules-of}
@@ -27,7 +27,7 @@ module _ (table : Table) (few : table .tasks ≤ 16) (s : List ℕ) where
   unfolding check-of
   told = from (read-all (reader-of table s)) (said (rules-of table few s))
     where
-      from : (x : Read SoFar) → Said (rules-of table few s) x → Told table s (checked-in (records s) x)
+      from : (x : Read SoFar) → Said (rules-of table few s) x → Told table s (checked-in (entries s) x)
       from (whole b) faultless = record { long = faultless .long; good = faultless .good }
       from (stopped number index) faulty = faulty
 
@@ -36,12 +36,12 @@ module _ (table : Table) (few : table .tasks ≤ 16) (s : List ℕ) where
   pub check-good : (n : ℕ) → check-of table s ≡ Legal n → Accepted table s
   check-good n is = rw is at told
 
-  pub good-check : Accepted table s → check-of table s ≡ Legal (records s)
+  pub good-check : Accepted table s → check-of table s ≡ Legal (entries s)
   good-check accepted =
       let end = faultless-read (rules-of table few s) (record { long = accepted .long; good = accepted .good }) in
       sym (check-whole table s (end .is) refl)
 
-  pub check-count : (n : ℕ) → check-of table s ≡ Legal n → n ≡ records s
+  pub check-count : (n : ℕ) → check-of table s ≡ Legal n → n ≡ entries s
   check-count n is = cc (good-check (check-good n is))
 
   -- ---- a refusal is given exactly where document 01 gives it

@@ -51,13 +51,13 @@ module _ {table : Table} {s : List ℕ} {i : ℕ} {b : SoFar} (carried : Carried
       after last (inr (same, rises)) =
           record { not-before = omega (arith, last .arrival); rising = λ same. omega (arith, last .task) }
 
-  catches-10 : Catches (misplaced table b (entry-of s i)) (In-place table s i)
-  catches-10 =
+  catches-10 : (last : ℕ) → Catches (misplaced last table b (entry-of s i)) (In-place last table s i)
+  catches-10 last =
       catches-as
       (λ kept. record { pad = kept .pad; known = kept .known; near = kept .near; ordered = ordered (kept .in-order) })
       (λ place.
       record { pad = place .pad; known = place .known; near = place .near; in-order = in-order (place .ordered) })
-      (catches-place table b (entry-of s i))
+      (catches-place last table b (entry-of s i))
 
   -- ---- rule 11
 
@@ -78,7 +78,7 @@ module _ {table : Table} {s : List ℕ} {i : ℕ} {b : SoFar} (carried : Carried
       let on = in-turn m (latest-next latest) in
       (omega (arith, next-is, on .frame-is), omega (arith, from-is, on .not-soon))
 
-  catches-11 : In-place table s i → Catches (out-of-turn b (entry-of s i)) (In-turn table s i)
+  catches-11 : {last : ℕ} → In-place last table s i → Catches (out-of-turn b (entry-of s i)) (In-turn table s i)
   catches-11 place =
       let of-task = carried .of-task (entry-of s i .task) (omega (arith, place .known .task, carried .few)) in
       catches-as
@@ -88,5 +88,5 @@ module _ {table : Table} {s : List ℕ} {i : ℕ} {b : SoFar} (carried : Carried
 
   -- ---- both: the test of rule 11 leans on rule 10
 
-  pub rules-caught : Caught (rules table) (b, entry-of s i) (s, i)
-  rules-caught = rung catches-10 (λ in-place. rung (catches-11 in-place) (λ in-turn. tt))
+  pub rules-caught : (last : ℕ) → Caught (rules last table) (b, entry-of s i) (s, i)
+  rules-caught last = rung (catches-10 last) (λ in-place. rung (catches-11 in-place) (λ in-turn. tt))

@@ -10,25 +10,18 @@ use native.Mathlib.Nat.{mod-lt}
 use native.Mathlib.Omega.{arith}
 use Rattle.model.specs.Task.{Task}
 use Rattle.model.specs.Demand.{frame}
-use Rattle.model.specs.Request.{Has-frame, no-frame, last-arrival}
+use Rattle.model.specs.Request.{Has-frame, no-frame}
 use Rattle.table.specs.declared.plan.Plan.{Plan}
 use Rattle.table.specs.Ready.{Ready, Frames}
 use Rattle.table.specs.TableOf.{table-of}
 use Rattle.table.proofs.ReadyLaws.{ready-tasks, ready-few}
 use Rattle.requests.specs.declared.entry.Entry.{Entry}
 use Rattle.requests.specs.declared.list_rules.SoFar.{SoFar}
-use Rattle.requests.specs.ListRules.{out-of-order, misplaced, out-of-turn, Placed}
+use Rattle.requests.specs.ListRules.{out-of-order, misplaced, out-of-turn}
 use Rattle.requests.specs.ListReader.{fault-of}
 use Rattle.requests.proofs.TestLaws.{catches-place}
 
-pub last-arrival-is : last-arrival ≡ 65535
-unfolding last-arrival
-last-arrival-is = refl
-
--- ---- the next frame, and the soonest that it may come
-
-pub soonest-fits : {s : List ℕ} {x : Entry} → Placed s x → {p : ℕ} → p < 65536 → x .arrival + p < 4294967296
-soonest-fits placed short = omega (arith, last-arrival-is, placed .near)
+-- ---- the next frame
 
 module _ {task : Task} {count : ℕ} (counted : Frames task count) (i : ℕ) where
   pub next-few : (i + 1) % count < 16
@@ -49,34 +42,35 @@ module _ {s : List ℕ} {plan : Plan} (ready : Ready s plan) (x : Entry) where
     known-task = omega (arith, has .task, ready-tasks ready)
 
 -- a record that rule 10 passes, and so one with no fault, may be told to `after`
-module _ {s : List ℕ} {x : Entry} (b : SoFar) where
-  passed-placed : misplaced (table-of s) b x ≡ false → Placed s x
-  passed-placed fine =
-      let kept = catches-place (table-of s) b x .passed fine in record { known = kept .known; near = kept .near }
+module _ (last : ℕ) (s : List ℕ) (b : SoFar) (x : Entry) where
+  passed-known : misplaced last (table-of s) b x ≡ false → Has-frame (table-of s) (x .task) (x .frame)
+  passed-known fine = catches-place last (table-of s) b x .passed fine .known
 
-  pub fine-placed : {fault : ℕ} → fault ≡ fault-of (table-of s) b x → fault ≡ 0 → Placed s x
-  fine-placed is none = passed-placed (which (misplaced (table-of s) b x) refl)
+  pub fine-known : {fault : ℕ} → fault ≡ fault-of last (table-of s) b x → fault ≡ 0
+      → Has-frame (table-of s) (x .task) (x .frame)
+  fine-known is none = passed-known (which (misplaced last (table-of s) b x) refl)
     where
-      which : (r10 : Bool) → misplaced (table-of s) b x ≡ r10 → misplaced (table-of s) b x ≡ false
-      which true e = let ten : fault-of (table-of s) b x ≡ 10 = rw e in absurd (omega (arith, sym ten ∙ sym is ∙ none))
+      which : (r10 : Bool) → misplaced last (table-of s) b x ≡ r10 → misplaced last (table-of s) b x ≡ false
+      which true e =
+          let ten : fault-of last (table-of s) b x ≡ 10 = rw e in absurd (omega (arith, sym ten ∙ sym is ∙ none))
       which false e = e
 
-pub misplaced-is : (s : List ℕ) (b : SoFar) (x : Entry) {strange early : Bool}
+pub misplaced-is : (last : ℕ) (s : List ℕ) (b : SoFar) (x : Entry) {strange early : Bool}
     → strange ≡ no-frame (table-of s) (x .task) (x .frame) → early ≡ out-of-order b x
-    → (not (eqb (x .pad) 0) || (strange || (ltb 65535 (x .arrival) || early))) ≡ misplaced (table-of s) b x
-misplaced-is s b x strange-is early-is = rw (strange-is, early-is, last-arrival-is)
+    → (not (eqb (x .pad) 0) || (strange || (ltb last (x .arrival) || early))) ≡ misplaced last (table-of s) b x
+misplaced-is last s b x strange-is early-is = rw (strange-is, early-is)
 
-module _ {s : List ℕ} {plan : Plan} (ready : Ready s plan) (b : SoFar) (x : Entry) where
-  module _ {r10 : Bool} (is-10 : r10 ≡ misplaced (table-of s) b x) where
-    pub fault-10 : r10 ≡ true → 10 ≡ fault-of (table-of s) b x
+module _ {s : List ℕ} {plan : Plan} (ready : Ready s plan) (last : ℕ) (b : SoFar) (x : Entry) where
+  module _ {r10 : Bool} (is-10 : r10 ≡ misplaced last (table-of s) b x) where
+    pub fault-10 : r10 ≡ true → 10 ≡ fault-of last (table-of s) b x
     fault-10 broken = sym (rw (sym is-10 ∙ broken))
 
     module _ (fine : r10 ≡ false) where
       pub passed-low : x .task < 16
-      passed-low = known-low ready x (passed-placed {x = x} b (sym is-10 ∙ fine) .known)
+      passed-low = known-low ready x (passed-known last s b x (sym is-10 ∙ fine))
 
-      pub fault-11 : {r11 : Bool} → r11 ≡ out-of-turn b x → r11 ≡ true → 11 ≡ fault-of (table-of s) b x
+      pub fault-11 : {r11 : Bool} → r11 ≡ out-of-turn b x → r11 ≡ true → 11 ≡ fault-of last (table-of s) b x
       fault-11 is-11 broken = sym (rw (sym is-10 ∙ fine, sym is-11 ∙ broken))
 
-      pub fault-none : {r11 : Bool} → r11 ≡ out-of-turn b x → r11 ≡ false → 0 ≡ fault-of (table-of s) b x
+      pub fault-none : {r11 : Bool} → r11 ≡ out-of-turn b x → r11 ≡ false → 0 ≡ fault-of last (table-of s) b x
       fault-none is-11 kept = sym (rw (sym is-10 ∙ fine, sym is-11 ∙ kept))

@@ -1,11 +1,11 @@
 -- The tests of the rules 10 and 11, of any table, state and record: what is left where each is false.
 -- Assumes nothing.
-use Prim.Native.Nat.{_+_, _≤_, _<_}
+use Prim.Native.Nat.{ℕ, _+_, _≤_, _<_}
 use mathlib.Core.Path.{_≡_}
 use lib.ListN.{getD}
 use Rattle.laws.proofs.Tests.{Catches, catches-as, catches-lt, catches-ne, catches-or, catches-when, catches-past}
 use Rattle.model.specs.Task.{Table}
-use Rattle.model.specs.Request.{Has-frame, last-arrival}
+use Rattle.model.specs.Request.{Has-frame}
 use Rattle.model.proofs.FrameLaws.{catches-frame}
 use Rattle.requests.specs.declared.entry.Entry.{Entry}
 use Rattle.requests.specs.declared.list_rules.SoFar.{SoFar}
@@ -17,14 +17,15 @@ pub record In-order (b : SoFar) (x : Entry) : Type 0 where
   pub not-before : b .arrival ≤ x .arrival
   pub rising : x .arrival ≡ b .arrival → b .task ≤ x .task
 
-pub record Place-kept (table : Table) (b : SoFar) (x : Entry) : Type 0 where
+pub record Place-kept (last : ℕ) (table : Table) (b : SoFar) (x : Entry) : Type 0 where
   pub pad : x .pad ≡ 0
   pub known : Has-frame table (x .task) (x .frame)
-  pub near : x .arrival ≤ last-arrival
+  pub near : x .arrival ≤ last
   pub in-order : In-order b x
 
-pub catches-place : (table : Table) (b : SoFar) (x : Entry) → Catches (misplaced table b x) (Place-kept table b x)
-catches-place table b x =
+pub catches-place : (last : ℕ) (table : Table) (b : SoFar) (x : Entry)
+    → Catches (misplaced last table b x) (Place-kept last table b x)
+catches-place last table b x =
     catches-as
     (λ (pad, (known, (near, (not-before, rising)))). place pad known near not-before rising)
     (λ kept.
@@ -34,10 +35,10 @@ catches-place table b x =
     (catches-ne _ 0)
     (catches-or
     (catches-frame table (x .task) (x .frame))
-    (catches-or (catches-lt last-arrival _) (catches-or (catches-lt _ _) (catches-when _ _ (catches-lt _ _))))))
+    (catches-or (catches-lt last _) (catches-or (catches-lt _ _) (catches-when _ _ (catches-lt _ _))))))
   where
-    place : x .pad ≡ 0 → Has-frame table (x .task) (x .frame) → x .arrival ≤ last-arrival → b .arrival ≤ x .arrival
-        → (x .arrival ≡ b .arrival → b .task ≤ x .task) → Place-kept table b x
+    place : x .pad ≡ 0 → Has-frame table (x .task) (x .frame) → x .arrival ≤ last → b .arrival ≤ x .arrival
+        → (x .arrival ≡ b .arrival → b .task ≤ x .task) → Place-kept last table b x
     place pad known near not-before rising =
         record {
           pad = pad;

@@ -7,22 +7,21 @@ use lib.ListN.{length}
 use Rattle.laws.specs.Ladder.{Rule, rule}
 use Rattle.model.specs.Task.{Table}
 use Rattle.model.specs.Request.{Has-frame, Next, Follows, Legal, Before, Sorted, last-arrival}
-use Rattle.table.specs.Bytes.{size, records}
 use Rattle.requests.specs.declared.entry.Entry.{Entry}
 use Rattle.requests.specs.declared.list_rules.SoFar.{SoFar}
-use Rattle.requests.specs.Entry.{most-requests, entry-of, list-of}
+use Rattle.requests.specs.Entry.{entry-size, entries, most-requests, entry-of, list-of}
 use Rattle.requests.specs.ListRules.{misplaced, out-of-turn}
 
 -- rule 10, the length: "A list has 0 to 128 records"
 pub record Length-right (n : ℕ) : Type 0 where
-  pub few : n ≤ most-requests * size
-  pub whole : n % size ≡ 0
+  pub few : n ≤ most-requests * entry-size
+  pub whole : n % entry-size ≡ 0
 
--- rule 10: "two zero bytes", a known task and frame, "arrivals 0 to 65,535", the order
-pub record In-place (table : Table) (s : List ℕ) (j : ℕ) : Type 0 where
+-- rule 10: "two zero bytes", a known task and frame, arrivals 0 to `last`, the order
+pub record In-place (last : ℕ) (table : Table) (s : List ℕ) (j : ℕ) : Type 0 where
   pub pad : entry-of s j .pad ≡ 0
   pub known : Has-frame table (entry-of s j .task) (entry-of s j .frame)
-  pub near : list-of s .request j .arrival ≤ last-arrival
+  pub near : list-of s .request j .arrival ≤ last
   pub ordered : (i : ℕ) → i + 1 ≡ j → Before (list-of s .request i) (list-of s .request j)
 
 -- rule 11: its frame and its arrival follow on the task's request before it
@@ -31,35 +30,35 @@ In-turn table s j = (i : ℕ) → Next (list-of s) i j → Follows table (list-o
 
 -- "in each record 10 before 11": each rule's number; its test, of record x after what is carried, b; and what it says
 -- of record j of the bytes s
-abbrev pub rules : Table → List (Rule (SoFar × Entry) (List ℕ × ℕ))
-rules table =
-    rule 10 (λ (b, x). misplaced table b x) (λ (s, j). In-place table s j)
+abbrev pub rules : ℕ → Table → List (Rule (SoFar × Entry) (List ℕ × ℕ))
+rules last table =
+    rule 10 (λ (b, x). misplaced last table b x) (λ (s, j). In-place last table s j)
     ∷ rule 11 (λ (b, x). out-of-turn b x) (λ (s, j). In-turn table s j)
     ∷ []
 
 -- record j keeps them both
-pub record Good (table : Table) (s : List ℕ) (j : ℕ) : Type 0 where
-  pub in-place : In-place table s j
+pub record Good (last : ℕ) (table : Table) (s : List ℕ) (j : ℕ) : Type 0 where
+  pub in-place : In-place last table s j
   pub in-turn : In-turn table s j
 
--- the rules but for the bench's limit of 128 records
+-- "arrivals 0 to 65,535": the rules but for the bench's limit of 128 records
 pub record Lawful (table : Table) (s : List ℕ) : Type 0 where
-  pub whole : length s % size ≡ 0
-  pub good : (j : ℕ) → j < records s → Good table s j
+  pub whole : length s % entry-size ≡ 0
+  pub good : (j : ℕ) → j < entries s → Good last-arrival table s j
 
 pub record Accepted (table : Table) (s : List ℕ) : Type 0 where
   pub long : Length-right (length s)
-  pub good : (j : ℕ) → j < records s → Good table s j
+  pub good : (j : ℕ) → j < entries s → Good last-arrival table s j
 
 -- the same of the list as a whole: legal, sorted, with no late arrival, of at most 128 records, and with zero pads
 pub record In-rule (table : Table) (s : List ℕ) : Type 0 where
   pub long : Length-right (length s)
-  pub pads : (i : ℕ) → i < records s → entry-of s i .pad ≡ 0
+  pub pads : (i : ℕ) → i < entries s → entry-of s i .pad ≡ 0
   pub legal : Legal table (list-of s)
   pub sorted : Sorted (list-of s)
-  pub near : (i : ℕ) → i < records s → list-of s .request i .arrival ≤ last-arrival
+  pub near : (i : ℕ) → i < entries s → list-of s .request i .arrival ≤ last-arrival
 
 -- what a caller that has checked a list of n records knows of it
 pub record Listed (table : Table) (s : List ℕ) (n : ℕ) : Type 0 where
   pub accepted : Accepted table s
-  pub count-is : n ≡ records s
+  pub count-is : n ≡ entries s

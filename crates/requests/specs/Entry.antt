@@ -2,10 +2,18 @@
 -- Assumes nothing.
 use Prim.Native.Nat.{ℕ, zero, suc, _+_, _*_, _/_, _%_}
 use mathlib.Core.List.{List, [], _∷_, _++_}
-use lib.ListN.{getD}
+use lib.ListN.{length, getD}
 use Rattle.model.specs.Request.{Request, Requests}
-use Rattle.table.specs.Bytes.{size, records, half}
+use Rattle.table.specs.Bytes.{half}
 use Rattle.requests.specs.declared.entry.Entry.{Entry}
+
+-- "A request record is 8 bytes": its own number, whatever a table's record has
+abbrev pub entry-size : ℕ
+entry-size = 8
+
+-- how many whole request records the bytes are
+abbrev pub entries : List ℕ → ℕ
+entries s = length s / entry-size
 
 -- "A list has 0 to 128 records"
 abbrev pub most-requests : ℕ
@@ -15,14 +23,14 @@ most-requests = 128
 abbrev pub word : List ℕ → ℕ → ℕ
 word s at = half s at + 65536 * half s (at + 2)
 
--- "A request record is 8 bytes: task, frame, two zero bytes, arrival as 32 bits low byte first."
+-- "task, frame, two zero bytes, arrival as 32 bits low byte first"
 unfoldable pub entry-of : List ℕ → ℕ → Entry
 entry-of s i =
     record {
-      task = getD s (i * size) 0;
-      frame = getD s (i * size + 1) 0;
-      pad = half s (i * size + 2);
-      arrival = word s (i * size + 4);
+      task = getD s (i * entry-size) 0;
+      frame = getD s (i * entry-size + 1) 0;
+      pad = half s (i * entry-size + 2);
+      arrival = word s (i * entry-size + 4);
     }
 
 abbrev pub request-in : Entry → Request
@@ -30,7 +38,7 @@ request-in x = record { task = x .task; frame = x .frame; arrival = x .arrival }
 
 -- the list that the bytes are
 abbrev pub list-of : List ℕ → Requests
-list-of s = record { count = records s; request = λ i. request-in (entry-of s i) }
+list-of s = record { count = entries s; request = λ i. request-in (entry-of s i) }
 
 -- ---- the other way: a list as bytes
 

@@ -9,23 +9,23 @@ use lib.Dec.{ltb, eqb}
 use Rattle.laws.specs.Ladder.{climb}
 use Rattle.laws.specs.Reader.{Reader, Read, whole, stopped, read-all}
 use Rattle.model.specs.Task.{Table}
-use Rattle.table.specs.Bytes.{size, records}
+use Rattle.model.specs.Request.{last-arrival}
 use Rattle.table.specs.declared.reader.Refusal.{Refusal}
 use Rattle.requests.specs.declared.entry.Entry.{Entry}
 use Rattle.requests.specs.declared.list_rules.SoFar.{SoFar}
 use Rattle.requests.specs.declared.list_reader.Checked.{Checked}
 use Rattle.requests.specs.declared.list_reader.Checked.the-variants.{Legal, Refused}
-use Rattle.requests.specs.Entry.{most-requests, entry-of}
+use Rattle.requests.specs.Entry.{entry-size, entries, most-requests, entry-of}
 use Rattle.requests.specs.ListRules.{none-yet, after-of}
 use Rattle.requests.specs.Accepted.{rules}
 
 -- 10: "list length not a multiple of 8 or above 1,024 (index 0)"
 abbrev pub bad-length : ℕ → Bool
-bad-length n = ltb (most-requests * size) n || not (eqb (n % size) 0)
+bad-length n = ltb (most-requests * entry-size) n || not (eqb (n % entry-size) 0)
 
 -- "in each record 10 before 11": the number of the first that is broken, or 0
-abbrev pub fault-of : Table → SoFar → Entry → ℕ
-fault-of table b x = climb (rules table) (λ number index. number) (b, x) 0
+abbrev pub fault-of : ℕ → Table → SoFar → Entry → ℕ
+fault-of last table b x = climb (rules last table) (λ number index. number) (b, x) 0
 
 -- how a list is read: rule 10 by its length, then the rules 10 and 11 record by record
 abbrev pub reader-of : Table → List ℕ → Reader SoFar Entry
@@ -33,10 +33,10 @@ reader-of table s =
     record {
       bad-length = bad-length (length s);
       length-number = 10;
-      count = records s;
+      count = entries s;
       at = entry-of s;
       start = none-yet;
-      fault = fault-of table;
+      fault = fault-of last-arrival table;
       after = after-of table;
     }
 
@@ -46,7 +46,7 @@ checked-in n (whole b) = Legal n
 checked-in n (stopped number index) = Refused (record { number = number; index = index })
 
 unfoldable pub check-of : Table → List ℕ → Checked
-check-of table s = checked-in (records s) (read-all (reader-of table s))
+check-of table s = checked-in (entries s) (read-all (reader-of table s))
 
 -- the refusal that a check carries
 abbrev pub refusal-in : Checked → Refusal

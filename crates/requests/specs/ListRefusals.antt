@@ -7,15 +7,17 @@ use lib.ListN.{length}
 use Rattle.laws.specs.Ladder as Ladder
 use Rattle.laws.specs.Reader.{Bad-length, Bad-record}
 use Rattle.model.specs.Task.{Table}
-use Rattle.table.specs.Bytes.{records}
+use Rattle.model.specs.Request.{last-arrival}
+use Rattle.requests.specs.Entry.{entries}
 use Rattle.requests.specs.Accepted.{Length-right, rules, Good}
 
 -- the first rule that record j breaks, "in each record 10 before 11"
-abbrev pub Breaks : Table → List ℕ → ℕ → ℕ → Type 0
-Breaks table s j number = Ladder.Breaks (rules table) (s, j) number 0
+abbrev pub Breaks : ℕ → Table → List ℕ → ℕ → ℕ → Type 0
+Breaks last table s j number = Ladder.Breaks (rules last table) (s, j) number 0
 
 -- the refusal that the document's table gives these bytes: 10 for a wrong length, or that of the first bad record
 abbrev pub Refused-with : Table → List ℕ → ℕ → ℕ → Type 0
 Refused-with table s number index =
     Bad-length (Length-right (length s)) 10 number index
-    ⊎ Bad-record (Length-right (length s)) (records s) (Good table s) (Breaks table s) number index
+    ⊎ Bad-record (Length-right (length s)) (entries s) (Good last-arrival table s) (Breaks last-arrival table s) number
+    index

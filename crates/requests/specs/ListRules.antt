@@ -21,10 +21,10 @@ none-yet = record { arrival = 0; task = 0; next = replicate 16 0; from = replica
 abbrev pub out-of-order : SoFar → Entry → Bool
 out-of-order b x = ltb (x .arrival) (b .arrival) || (eqb (x .arrival) (b .arrival) && ltb (x .task) (b .task))
 
--- 10: "pad not zero, unknown task or frame, arrival too large, order broken"
-abbrev pub misplaced : Table → SoFar → Entry → Bool
-misplaced table b x =
-    not (eqb (x .pad) 0) || (no-frame table (x .task) (x .frame) || (ltb last-arrival (x .arrival) || out-of-order b x))
+-- 10: "pad not zero, unknown task or frame, arrival too large, order broken". The last arrival is told
+abbrev pub misplaced : ℕ → Table → SoFar → Entry → Bool
+misplaced last table b x =
+    not (eqb (x .pad) 0) || (no-frame table (x .task) (x .frame) || (ltb last (x .arrival) || out-of-order b x))
 
 -- 11: "next request has the wrong frame or comes too soon"
 abbrev pub out-of-turn : SoFar → Entry → Bool
@@ -50,7 +50,7 @@ after-of table b x =
       from = set (b .from) (x .task) (soonest table x);
     }
 
--- what is asked of a record before the next is looked at: it is known, and no later than the last arrival
+-- what the bench asks of a record that it loads: it is known, and no later than the last arrival
 pub record Placed (s : List ℕ) (x : Entry) : Type 0 where
   pub known : Has-frame (table-of s) (x .task) (x .frame)
   pub near : x .arrival ≤ last-arrival

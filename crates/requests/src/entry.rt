@@ -1,10 +1,11 @@
 // One record of a request list: document 01, "The replay bench".
-use table::record::SIZE;
 ghost use mathlib.Core.Path.{_≡_};
 ghost use Prim.Native.Nat.{_+_, _*_, _<_, _≤_};
 ghost use lib.ListN.{length};
-ghost use Rattle.table.specs.Bytes.{size};
-ghost use Rattle.requests.specs.Entry.{word, entry-of};
+ghost use Rattle.requests.specs.Entry.{entry-size, word, entry-of};
+
+// The bytes of one request record.
+pub const ENTRY_SIZE: usize = 8;
 
 // A request with its two pad bytes, which rule 10 wants zero.
 pub struct Entry {
@@ -33,10 +34,10 @@ fn word_at(s: &[u8], at: usize) -> u32
 
 // Record i of a list.
 pub fn entry_at(list: &[u8], i: usize) -> Entry
-    requires { ⌜ (i + 1) * size ≤ length (now list) ⌝ }
+    requires { ⌜ (i + 1) * entry-size ≤ length (now list) ⌝ }
     ensures { λ r. ⌜ r ≡ entry-of (now (list .entry)) i ⌝ }
 {
-    let at = i * SIZE;
+    let at = i * ENTRY_SIZE;
     let task = list[at];
     let frame = list[at + 1];
     let pad = table::record::half_at(list, at + 2);

@@ -1,8 +1,9 @@
 // The reader of request lists: refusals 10 and 11.
+use crate::entry::ENTRY_SIZE;
+use crate::list_rules::LAST_ARRIVAL;
 use crate::list_rules::SoFar;
 use table::plan::Plan;
 use table::reader::Refusal;
-use table::record::SIZE;
 ghost use mathlib.Core.Path.{_≡_};
 ghost use Rattle.table.specs.Ready.{Ready};
 ghost use Rattle.table.specs.TableOf.{table-of};
@@ -20,7 +21,7 @@ pub enum Checked {
 fn is_bad_length(n: usize) -> bool
     ensures { λ r. ⌜ r ≡ bad-length n ⌝ }
 {
-    (MOST_REQUESTS * SIZE < n) | (n % SIZE != 0)
+    (MOST_REQUESTS * ENTRY_SIZE < n) | (n % ENTRY_SIZE != 0)
 }
 
 // The whole list: how many records it has, or the first refusal.
@@ -35,17 +36,17 @@ pub fn check_list<'a, 'b>(s: &'a [u8], plan: Plan, list: &'b [u8]) -> Checked
             index: 0,
         });
     }
-    let n = len / SIZE;
+    let n = len / ENTRY_SIZE;
     let mut b = SoFar {
         arrival: 0,
         task: 0,
         next: [0u8; 16],
-        from: [0u32; 16],
+        from: [0u64; 16],
     };
     let mut i: usize = 0;
     while i < n {
         let x = crate::entry::entry_at(list, i);
-        let f = crate::list_rules::fault(s, plan, b, x);
+        let f = crate::list_rules::fault(s, plan, LAST_ARRIVAL, b, x);
         if f != 0 {
             return Checked::Refused(Refusal {
                 number: f,

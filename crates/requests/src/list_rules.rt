@@ -8,7 +8,7 @@ ghost use Rattle.table.specs.Ready.{Ready};
 ghost use Rattle.table.specs.TableOf.{table-of};
 ghost use Rattle.requests.specs.ListReader.{fault-of};
 ghost use Rattle.requests.specs.ListRules.{out-of-order, misplaced, out-of-turn};
-ghost use Rattle.requests.specs.ListRules.{next-frame, soonest, after-of, Placed};
+ghost use Rattle.requests.specs.ListRules.{next-frame, soonest, after-of};
 
 // "arrivals 0 to 65,535"
 pub const LAST_ARRIVAL: u32 = 65535;
@@ -19,7 +19,7 @@ pub struct SoFar {
     pub arrival: u32,
     pub task: u16,
     pub next: [u8; 16],
-    pub from: [u32; 16],
+    pub from: [u64; 16],
 }
 
 fn is_out_of_order(b: SoFar, x: Entry) -> bool
@@ -28,12 +28,12 @@ fn is_out_of_order(b: SoFar, x: Entry) -> bool
     (x.arrival < b.arrival) | ((x.arrival == b.arrival) & ((x.task as u16) < b.task))
 }
 
-fn is_misplaced(s: &[u8], plan: Plan, b: SoFar, x: Entry) -> bool
+fn is_misplaced(s: &[u8], plan: Plan, last: u32, b: SoFar, x: Entry) -> bool
     requires { ⌜ Ready (now s) plan ⌝ }
-    ensures { λ r. ⌜ r ≡ misplaced (table-of (now (s .entry))) b x ⌝ }
+    ensures { λ r. ⌜ r ≡ misplaced last (table-of (now (s .entry))) b x ⌝ }
 {
     let unknown = table::frame::is_missing(s, plan, x.task as u64, x.frame as u64);
-    (x.pad != 0) | (unknown | ((LAST_ARRIVAL < x.arrival) | is_out_of_order(b, x)))
+    (x.pad != 0) | (unknown | ((last < x.arrival) | is_out_of_order(b, x)))
 }
 
 fn is_out_of_turn(b: SoFar, x: Entry) -> bool
@@ -42,15 +42,15 @@ fn is_out_of_turn(b: SoFar, x: Entry) -> bool
 {
     let next = b.next[x.task as usize];
     let from = b.from[x.task as usize];
-    (0 < next) & ((x.frame as u16 + 1 != next as u16) | (x.arrival < from))
+    (0 < next) & ((x.frame as u16 + 1 != next as u16) | ((x.arrival as u64) < from))
 }
 
-// The number of the first rule that is broken, or 0.
-pub fn fault(s: &[u8], plan: Plan, b: SoFar, x: Entry) -> u8
+// The number of the first rule that is broken, or 0, where no arrival may be past `last`.
+pub fn fault(s: &[u8], plan: Plan, last: u32, b: SoFar, x: Entry) -> u8
     requires { ⌜ Ready (now s) plan ⌝ }
-    ensures { λ r. ⌜ r ≡ fault-of (table-of (now (s .entry))) b x ⌝ }
+    ensures { λ r. ⌜ r ≡ fault-of last (table-of (now (s .entry))) b x ⌝ }
 {
-    if is_misplaced(s, plan, b, x) {
+    if is_misplaced(s, plan, last, b, x) {
         return 10;
     }
     if is_out_of_turn(b, x) {
@@ -68,18 +68,18 @@ fn next_after(s: &[u8], plan: Plan, x: Entry) -> u8
     ((x.frame as usize + 1) % count + 1) as u8
 }
 
-// The soonest that the frame after x may come.
-fn soonest_after(s: &[u8], plan: Plan, x: Entry) -> u32
-    requires { ⌜ Ready (now s) plan × Placed (now s) x ⌝ }
+// The soonest that the frame after x may come: past the 32 bits of an arrival, where x has the last of them.
+fn soonest_after(s: &[u8], plan: Plan, x: Entry) -> u64
+    requires { ⌜ Ready (now s) plan × Has-frame (table-of (now s)) (x .task) (x .frame) ⌝ }
     ensures { λ r. ⌜ r ≡ soonest (table-of (now (s .entry))) x ⌝ }
 {
     let frame = table::frame::frame_at(s, plan, x.task as usize, x.frame as usize);
-    x.arrival + crate::entry::wide(frame.p)
+    x.arrival as u64 + frame.p as u64
 }
 
 // What is known after a good record.
 pub fn after(s: &[u8], plan: Plan, b: SoFar, x: Entry) -> SoFar
-    requires { ⌜ Ready (now s) plan × Placed (now s) x ⌝ }
+    requires { ⌜ Ready (now s) plan × Has-frame (table-of (now s)) (x .task) (x .frame) ⌝ }
     ensures { λ r. ⌜ r ≡ after-of (table-of (now (s .entry))) b x ⌝ }
 {
     let task = x.task as usize;

@@ -1,3 +1,2 @@
-pub mod Deadlines
 pub mod Shares
 pub mod ResponseWritten

@@ -12,3 +12,5 @@ pub mod Stands
 pub mod TaskLaws
 pub mod ReadyLaws
 pub mod FrameRecords
+pub mod DeadlineLaws
+pub mod FramesWithin

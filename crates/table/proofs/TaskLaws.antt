@@ -46,6 +46,10 @@ module _ (s : List ℕ) (bytes : (i : ℕ) → getD s i 0 < 256) where
   unfolding record-of
   d-most i = half-most (i * size + 4)
 
+  p-most : (i : ℕ) → record-of s i .p ≤ 65535
+  unfolding record-of
+  p-most i = half-most (i * size + 6)
+
   -- a task whose frames are good records
   task-proper : (first count : ℕ) → 1 ≤ count → count ≤ 16 → ((i : ℕ) → i < count → Good s (first + i)) →
       Proper (task-of s first count)
@@ -59,6 +63,7 @@ module _ (s : List ℕ) (bytes : (i : ℕ) → getD s i 0 < 256) where
         waits = λ i within. good i within .not-zero .d;
         soon = λ i within. d-most (first + i);
         moves = λ i within. good i within .not-zero .p;
+        often = λ i within. p-most (first + i);
       }
 
 -- what is read as a table has numbers in their bounds

@@ -5,3 +5,4 @@ pub mod TableReader
 pub mod TableRefusals
 pub mod TableOf
 pub mod Ready
+pub mod Deadlines

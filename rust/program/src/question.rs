@@ -3,6 +3,7 @@ use crate::arguments::{usage, Arguments, Word};
 use crate::input::Input;
 use crate::output::shown;
 use crate::questions::{List, Question, Table, QUESTIONS};
+use crate::records::REQUEST_SIZE;
 use desk::{grouped, LAST_ARRIVAL, MOST_TASKS};
 
 /// The longest buffer that `overload` may be asked for.
@@ -40,8 +41,8 @@ impl Question {
     fn unless_too_long(self) -> Result<Question, String> {
         match self {
             Question::Overload(_, length, _) if length > LONGEST_BUFFER => {
-                // Each task has at most one request at each arrival, of 8 bytes.
-                let any_list = MOST_TASKS as u64 * (u64::from(LAST_ARRIVAL) + 1) * 8;
+                // Each task has at most one request at each arrival.
+                let any_list = MOST_TASKS as u64 * (u64::from(LAST_ARRIVAL) + 1) * REQUEST_SIZE as u64;
                 Err(format!(
                     "overload: BUFLEN is {length}; at most {LONGEST_BUFFER} can be asked for, and any list goes into \
                      {} bytes",

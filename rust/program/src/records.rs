@@ -1,7 +1,9 @@
 //! The records of a table and of a list, taken apart for what people read. The desk reads the bytes by itself.
+use desk::{MOST_LIST_BYTES, MOST_RECORDS, MOST_REQUESTS, MOST_TABLE_BYTES};
 
-/// The bytes of a record.
-pub const SIZE: usize = 8;
+/// The bytes of a table's record, and of a request's: the desk counts each in its own.
+pub const RECORD_SIZE: usize = MOST_TABLE_BYTES / MOST_RECORDS;
+pub const REQUEST_SIZE: usize = MOST_LIST_BYTES / MOST_REQUESTS;
 
 /// A record of a table.
 #[derive(Debug, PartialEq, Eq)]
@@ -26,7 +28,7 @@ pub struct Request {
 /// The whole records of a table's bytes, in order.
 pub fn of_table(table: &[u8]) -> Vec<Record> {
     let mut records: Vec<Record> = Vec::new();
-    for b in table.chunks_exact(SIZE) {
+    for b in table.chunks_exact(RECORD_SIZE) {
         let frame = match records.last() {
             Some(before) if before.task == b[0] => before.frame + 1,
             _ => 0,
@@ -51,7 +53,7 @@ pub fn of_list(list: &[u8]) -> Vec<Request> {
         frame: b[1],
         arrival: u32::from_le_bytes([b[4], b[5], b[6], b[7]]),
     };
-    list.chunks_exact(SIZE).map(request).collect()
+    list.chunks_exact(REQUEST_SIZE).map(request).collect()
 }
 
 /// The record of a table that a request asks for.

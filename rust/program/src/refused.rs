@@ -1,7 +1,7 @@
 //! A refusal for people: what stands at the record that it points at.
 use crate::input::MOST;
 use crate::output::count;
-use crate::records::{self, Record, Request, SIZE};
+use crate::records::{self, Record, Request, RECORD_SIZE, REQUEST_SIZE};
 use desk::{refusals, Index, Refusal, MOST_REQUESTS};
 
 /// What stands there, and where an example is.
@@ -25,20 +25,30 @@ fn in_table(no: Refusal, table: &[u8]) -> String {
         3 | 6 if record.frame > 0 => Some(no.index - 1),
         _ => None,
     };
-    at_record("table", no.index, table, beside, |i| table_record(&records[i]))
+    let here = Whole {
+        whose: "table",
+        bytes: table,
+        size: RECORD_SIZE,
+    };
+    here.at_record(no.index, beside, |i| table_record(&records[i]))
 }
 
 fn in_list(no: Refusal, list: &[u8]) -> String {
     let requests = records::of_list(list);
     // The length is tested before any record.
-    let wrong_length = !list.len().is_multiple_of(SIZE) || requests.len() > MOST_REQUESTS;
+    let wrong_length = !list.len().is_multiple_of(REQUEST_SIZE) || requests.len() > MOST_REQUESTS;
     match requests.get(no.index) {
         Some(request) if !wrong_length => {
             let beside = match no.number {
                 10 => no.index.checked_sub(1),
                 _ => requests[..no.index].iter().rposition(|r| r.task == request.task),
             };
-            at_record("list", no.index, list, beside, |i| list_record(&requests[i]))
+            let here = Whole {
+                whose: "list",
+                bytes: list,
+                size: REQUEST_SIZE,
+            };
+            here.at_record(no.index, beside, |i| list_record(&requests[i]))
         }
         _ => length("list", list),
     }
@@ -55,22 +65,26 @@ fn length(whose: &str, bytes: &[u8]) -> String {
     format!("The {whose} has {many}{or_more}.")
 }
 
-// The record's bytes and what they say, and what the record beside which it is wrong says.
-fn at_record(
-    whose: &str,
-    index: usize,
-    bytes: &[u8],
-    beside: Option<usize>,
-    say: impl Fn(usize) -> String,
-) -> String {
-    let from = index * SIZE;
-    let bytes = bytes[from..from + SIZE].iter().map(|b| format!("{b:02x}"));
-    let digits = bytes.collect::<Vec<_>>().join(" ");
-    let before = beside.map_or(String::new(), |i| format!(" Before it, record {i}: {}.", say(i)));
-    format!(
-        "Record {index} of the {whose} (counted from 0) begins at byte {from} and is {digits}: {}.{before}",
-        say(index)
-    )
+// A table or a list, and the bytes of one of its records.
+struct Whole<'a> {
+    whose: &'a str,
+    bytes: &'a [u8],
+    size: usize,
+}
+
+impl Whole<'_> {
+    // The record's bytes and what they say, and what the record beside which it is wrong says.
+    fn at_record(&self, index: usize, beside: Option<usize>, say: impl Fn(usize) -> String) -> String {
+        let whose = self.whose;
+        let from = index * self.size;
+        let bytes = self.bytes[from..from + self.size].iter();
+        let digits = bytes.map(|b| format!("{b:02x}")).collect::<Vec<_>>().join(" ");
+        let before = beside.map_or(String::new(), |i| format!(" Before it, record {i}: {}.", say(i)));
+        format!(
+            "Record {index} of the {whose} (counted from 0) begins at byte {from} and is {digits}: {}.{before}",
+            say(index)
+        )
+    }
 }
 
 fn table_record(r: &Record) -> String {

@@ -5,9 +5,10 @@ use Prim.Native.Nat.{_-_}
 use mathlib.Core.Path.{sym, _∙_}
 use borrow.Author.Needs.{needs}
 use Rattle.laws.proofs.ReaderLaws.{read-short, Reads-on, reads-start, reads-turn, reads-stopped, reads-whole}
+use Rattle.model.specs.Request.{last-arrival}
 use Rattle.table.specs.TableOf.{table-of}
 use Rattle.requests.specs.ListReader.{reader-of}
-use Rattle.requests.proofs.PlacedLaws.{fine-placed}
+use Rattle.requests.proofs.PlacedLaws.{fine-known}
 use Rattle.requests.proofs.CheckLaws.{check-stopped, check-whole}
 use Rattle.requests.proofs.list_reader.check_list.Statement.{statement}
 use Rattle.requests.proofs.list_reader.check_list.Tie as tie
@@ -25,6 +26,7 @@ loop-holds : tie.Need-loop-holds Inv-loop μ-loop
 loop-holds c = reads-start _ (c .before .is-bad-length .ensures) (c .if1 .left)
 
 returns-2 : tie.Need-returns-2 Inv-loop μ-loop
+unfolding last-arrival
 returns-2 c =
     let at-entry = c .before .before in
     check-stopped _ _
@@ -36,11 +38,16 @@ returns-2 c =
     (search needs))
 
 after-requires : tie.Need-after-requires Inv-loop μ-loop
+unfolding last-arrival
 after-requires c κs =
     let at-entry = c .before .before in
-    (search needs, fine-placed (at-entry .before .before .loop .b) (c .before .fault .ensures) (search needs))
+    let b = at-entry .before .before .loop .b in (
+      search needs,
+      fine-known last-arrival _ b (at-entry .entry-at .result) (c .before .fault .ensures) (search needs),
+    )
 
 loop-again : tie.Need-loop-again Inv-loop μ-loop
+unfolding last-arrival
 loop-again c =
     let at-fault = c .before .before in
     let at-entry = at-fault .before in

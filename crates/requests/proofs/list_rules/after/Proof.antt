@@ -10,13 +10,13 @@ array-write-next : tie.Need-array-write-next
 array-write-next c =
     let at-next = c .before in
     let entry = at-next .before .before .before in
-    known-low (entry .pre .0) (entry .args .x) (entry .pre .1 .known)
+    known-low (entry .pre .0) (entry .args .x) (entry .pre .1)
 
 array-write-from : tie.Need-array-write-from
 array-write-from c =
     let at-next = c .before .before .before in
     let entry = at-next .before .before .before in
-    known-low (entry .pre .0) (entry .args .x) (entry .pre .1 .known)
+    known-low (entry .pre .0) (entry .args .x) (entry .pre .1)
 
 returns : tie.Need-returns
 returns c = cc

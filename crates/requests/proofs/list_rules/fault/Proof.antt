@@ -8,18 +8,21 @@ use Rattle.requests.proofs.list_rules.fault.Tie as tie
 returns : tie.Need-returns
 returns c =
     let entry = c .before .before .before in
-    fault-10 (entry .pre) (entry .args .b) (entry .args .x) (c .before .is-misplaced .ensures) (c .if1 .taken)
+    let args = entry .args in
+    fault-10 (entry .pre) (args .last) (args .b) (args .x) (c .before .is-misplaced .ensures) (c .if1 .taken)
 
 is-out-of-turn-requires : tie.Need-is-out-of-turn-requires
 is-out-of-turn-requires c κs =
     let entry = c .before .before .before in
-    passed-low (entry .pre) (entry .args .b) (entry .args .x) (c .before .is-misplaced .ensures) (c .if1 .left)
+    let args = entry .args in
+    passed-low (entry .pre) (args .last) (args .b) (args .x) (c .before .is-misplaced .ensures) (c .if1 .left)
 
 returns-2 : tie.Need-returns-2
 returns-2 c =
     let placed = c .before .before in
     let entry = placed .before .before .before in
-    fault-11 (entry .pre) (entry .args .b) (entry .args .x) (placed .before .is-misplaced .ensures)
+    let args = entry .args in
+    fault-11 (entry .pre) (args .last) (args .b) (args .x) (placed .before .is-misplaced .ensures)
     (placed .if1 .left)
     (c .before .is-out-of-turn .ensures)
     (c .if2 .taken)
@@ -28,7 +31,8 @@ returns-3 : tie.Need-returns-3
 returns-3 c =
     let placed = c .before .before in
     let entry = placed .before .before .before in
-    fault-none (entry .pre) (entry .args .b) (entry .args .x) (placed .before .is-misplaced .ensures)
+    let args = entry .args in
+    fault-none (entry .pre) (args .last) (args .b) (args .x) (placed .before .is-misplaced .ensures)
     (placed .if1 .left)
     (c .before .is-out-of-turn .ensures)
     (c .if2 .left)

@@ -10,7 +10,7 @@ returns c =
     let at-missing = c .before .before .before in
     let at-entry = at-missing .before .before .before in
     let args = at-entry .before .args in
-    misplaced-is _ (args .b) (args .x) (at-missing .is-missing .ensures) (c .is-out-of-order .ensures)
+    misplaced-is (args .last) _ (args .b) (args .x) (at-missing .is-missing .ensures) (c .is-out-of-order .ensures)
 
 pub is-misplaced-spec : {M : Type 1} → statement M
 is-misplaced-spec =

@@ -3,8 +3,8 @@ ghost use mathlib.Core.Path.{_≡_};
 ghost use Prim.Native.Nat.{_*_, _≤_};
 ghost use lib.ListN.{length};
 ghost use Rattle.laws.specs.Search.{place-or};
 ghost use Rattle.table.specs.Bytes.{size};
-ghost use Rattle.response.specs.Deadlines.{first-above};
+ghost use Rattle.table.specs.Deadlines.{first-above};
 
 // The first of the n records with D above its P, or n where there is none.
 pub fn first_above(s: &[u8], n: usize) -> usize
@@ -13,7 +13,7 @@ pub fn first_above(s: &[u8], n: usize) -> usize
 {
     let mut i: usize = 0;
     while i < n {
-        let x = table::record::record_at(s, i);
+        let x = crate::record::record_at(s, i);
         if x.p < x.d {
             return i;
         }

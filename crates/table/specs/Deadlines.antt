@@ -1,13 +1,12 @@
--- Refusal 8: "some frame of the table has D above its P", carrying the "first such record".
+-- Refusal 8: "some frame of the table has D above its P", carrying the "first such record". Of frames and not of
+-- records: model/Request.Frames-within.
 -- Assumes nothing.
 use mathlib.Core.Bool.{Bool}
 use mathlib.Core.List.{List}
 use Prim.Native.Nat.{ℕ, _≤_, _<_}
 use lib.Dec.{ltb}
 use Rattle.laws.specs.Search.{Found, least-from}
-use Rattle.model.specs.Task.{Table}
-use Rattle.model.specs.Request.{Has-frame}
 use Rattle.table.specs.Bytes.{record-of}
 
 -- record i has "D above its P"
 abbrev pub above : List ℕ → ℕ → Bool
@@ -28,7 +27,3 @@ pub record First-above (s : List ℕ) (n i : ℕ) : Type 0 where
   pub inside : i < n
   pub above : record-of s i .p < record-of s i .d
   pub first : Within-P s i
-
--- no frame of the table has it
-abbrev pub Frames-within : Table → Type 0
-Frames-within table = (k i : ℕ) → Has-frame table k i → table .task k .D i ≤ table .task k .P i

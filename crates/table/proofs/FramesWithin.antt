@@ -4,11 +4,12 @@
 use mathlib.Core.List.{List}
 use native.Mathlib.Omega.{arith}
 use Prim.Native.Nat.{ℕ, _+_, _-_}
+use Rattle.model.specs.Request.{Frames-within}
 use Rattle.table.specs.Bytes.{records, record-of}
 use Rattle.table.specs.TableOf.{records-before, table-of}
 use Rattle.table.specs.WellFormed.{WellFormed}
 use Rattle.table.proofs.FrameRecords.{frame-record, record-frame}
-use Rattle.response.specs.Deadlines.{Within-P, Frames-within}
+use Rattle.table.specs.Deadlines.{Within-P}
 
 module _ (s : List ℕ) where
   pub frames-within : Within-P s (records s) → Frames-within (table-of s)

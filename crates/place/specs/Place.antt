@@ -1,4 +1,4 @@
--- A list written into a lent buffer from a place that the caller names: document 01, "When the desk says no", 12.
+-- Bytes written into a lent buffer from a place that the caller names: document 01, "When the desk says no", 12.
 -- Assumes nothing.
 use mathlib.Core.Bool.{Bool, cond, _||_}
 use mathlib.Core.Path.{_≡_}
@@ -7,16 +7,17 @@ use Prim.Native.Nat.{ℕ, _+_, _-_}
 use lib.Dec.{ltb}
 use lib.ListN.{length, take, drop}
 use Rattle.model.specs.Answer.{Answer, answered, refused}
-use Rattle.overload.specs.declared.write.Written.{Written}
-use Rattle.overload.specs.declared.write.Written.the-variants.{Bytes, Refused}
+use Rattle.place.specs.declared.written.Written.{Written}
+use Rattle.place.specs.declared.written.Written.the-variants.{Bytes, Refused}
 
--- 12: "the place lies past the buffer's end, or the list has more bytes than the buffer has from there"
-abbrev pub no-room : List ℕ → ℕ → List ℕ → Bool
-no-room buffer place list = ltb (length buffer) place || ltb (length buffer - place) (length list)
+-- 12: "the place lies past the buffer's end, or the list has more bytes than the buffer has from there", of a buffer
+-- of `long` bytes and a list of n
+abbrev pub no-room : ℕ → ℕ → ℕ → Bool
+no-room long place n = ltb long place || ltb (long - place) n
 
--- the list, where there is room for it
-unfoldable pub placed : List ℕ → ℕ → List ℕ → Answer (List ℕ)
-placed buffer place list = cond (no-room buffer place list) (refused 12 0) (answered list)
+-- the list, where there is room for it. Not `placed`, which jobs are
+unfoldable pub fitted : List ℕ → ℕ → List ℕ → Answer (List ℕ)
+fitted buffer place list = cond (no-room (length buffer) place (length list)) (refused 12 0) (answered list)
 
 -- the answer: how many bytes were written, or the refusal
 abbrev pub written-of : Answer (List ℕ) → Written

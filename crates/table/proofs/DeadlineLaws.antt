@@ -11,9 +11,9 @@ use borrow.Author.Tests.{lt-ltb, le-ltb, ltb-true, ltb-false}
 use Rattle.laws.specs.Search.{Found, at, nowhere, least-from, place-or}
 use Rattle.laws.proofs.FoundLaws.{least-at, least-none}
 use Rattle.laws.proofs.SearchLaws.{Right, least-right, least-is, Seeking, seeking-hit, seeking-on, seeking-end}
 use Rattle.table.specs.Bytes.{record-of}
 use Rattle.table.specs.declared.record.Record.{Record}
-use Rattle.response.specs.Deadlines.{above, first-above, Within-P, First-above}
+use Rattle.table.specs.Deadlines.{above, first-above, Within-P, First-above}
 
 module _ (s : List ℕ) {n i : ℕ} (seeking : Seeking (above s) n 0 i) where
   pub above-hit : {x : Record} → i < n → x ≡ record-of s i → x .p < x .d → i ≡ place-or n (first-above n s)

@@ -4,10 +4,10 @@
 use Prim.Native.Nat.{_-_}
 use borrow.Author.Needs.{needs}
 use Rattle.laws.proofs.SearchLaws.{Seeking, seeking-start}
-use Rattle.response.specs.Deadlines.{above}
-use Rattle.response.proofs.DeadlineLaws.{above-hit, above-on, above-end}
-use Rattle.response.proofs.deadlines.first_above.Statement.{statement}
-use Rattle.response.proofs.deadlines.first_above.Tie as tie
+use Rattle.table.specs.Deadlines.{above}
+use Rattle.table.proofs.DeadlineLaws.{above-hit, above-on, above-end}
+use Rattle.table.proofs.deadlines.first_above.Statement.{statement}
+use Rattle.table.proofs.deadlines.first_above.Tie as tie
 
 abbrev Inv-loop : tie.InvT-loop
 Inv-loop s n i₀ i = Seeking (above s) n 0 i

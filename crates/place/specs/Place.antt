@@ -15,7 +15,7 @@ use Rattle.place.specs.declared.written.Written.the-variants.{Bytes, Ref
 abbrev pub no-room : ℕ → ℕ → ℕ → Bool
 no-room long place n = ltb long place || ltb (long - place) n
 
--- the list, where there is room for it. Not `placed`, which jobs are
+-- the list, where there is room for it
 unfoldable pub fitted : List ℕ → ℕ → List ℕ → Answer (List ℕ)
 fitted buffer place list = cond (no-room (length buffer) place (length list)) (refused 12 0) (answered list)
 

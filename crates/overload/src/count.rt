@@ -9,7 +9,7 @@ ghost use Rattle.table.specs.TableOf.{table-of};
 ghost use Rattle.sums.specs.Sized.{ceiling};
 ghost use Rattle.overload.specs.Counts.{Asked, Counted, many-in, counts};
 
-fn choose(first: bool, a: u32, b: u32) -> u32
+fn choose_many(first: bool, a: u32, b: u32) -> u32
     ensures { λ r. ⌜ r ≡ cond first a b ⌝ }
 {
     if first { a } else { b }
@@ -28,7 +28,7 @@ fn count_by(s: &[u8], plan: Plan, k: usize, start: usize, t: u64) -> u32
     while 0 < left {
         let x = table::frame::frame_at(s, plan, k, i);
         n += 1;
-        many = choose(x.d as u64 <= left, n, many);
+        many = choose_many(x.d as u64 <= left, n, many);
         left = sums::cyclic::less(left, x.p);
         i = sums::cyclic::following(frames, i);
     }

@@ -20,14 +20,14 @@ pub fn front_of(tasks: usize, lanes: Lanes) -> usize
     let mut best: usize = 0;
     let mut k: usize = 0;
     while k < tasks {
-        best = better(lanes, best, k);
+        best = better_of(lanes, best, k);
         k += 1;
     }
     best
 }
 
 // Of task k and the best below it, the one that comes first.
-fn better(lanes: Lanes, best: usize, k: usize) -> usize
+fn better_of(lanes: Lanes, best: usize, k: usize) -> usize
     requires { ⌜ (best < 16) × (k < 16) ⌝ }
     ensures { λ r. ⌜ r ≡ better-of lanes best k ⌝ }
 {
@@ -53,7 +53,7 @@ pub fn move_on(s: &[u8], plan: Plan, lanes: Lanes, k: usize) -> Lanes
     let mut frame = lanes.frame;
     frame[k] = sums::cyclic::following(frames, i) as u8;
     let mut arrival = lanes.arrival;
-    arrival[k] = arrival[k] + requests::entry::wide(x.p);
+    arrival[k] = arrival[k] + requests::entry::wide_half(x.p);
     Lanes {
         left,
         frame,

@@ -13,7 +13,7 @@ use Rattle.model.specs.Replay.{Replayed, missed}
 use Rattle.model.specs.Answer.{answered}
 use Rattle.table.specs.Bytes.{Bytes}
 use Rattle.table.specs.TableOf.{table-of}
-use Rattle.table.specs.TableRefusals as Table
+use Rattle.table.specs.TableRefusals.{Table-refused}
 use Rattle.requests.specs.Entry.{list-of}
 use Rattle.requests.specs.Accepted.{Accepted}
 use Rattle.desk.specs.declared.answers.Verdict.{Verdict}
@@ -109,7 +109,7 @@ module _ (s : Slice) (bytes : Bytes (now s)) where
         passed = λ r j two. is-fit (now s) bytes said refl (number-is 2 r j two);
         undecided = λ r j three. is-open (now s) bytes said refl (number-is 3 r j three);
         refuses = λ r j none.
-            judged-by (λ q. Table.Refused-with (now s) (q .refusal .number) (q .refusal .index)) r j
+            judged-by (λ q. Table-refused (now s) (q .refusal .number) (q .refusal .index)) r j
             (is-refusal (now s) bytes said refl (number-is 0 r j none));
         no-other = λ r j. judged-by (λ q. q .verdict ≤ 3) r j (four said);
         wrote = wrote;

@@ -9,9 +9,9 @@ use Rattle.laws.specs.Ladder.{Breaks}
 use Rattle.model.specs.Answer.{Answer, answered, refused}
 use Rattle.table.specs.TableOf.{table-of}
 use Rattle.table.specs.WellFormed.{WellFormed}
-use Rattle.table.specs.TableRefusals as Table
+use Rattle.table.specs.TableRefusals.{Table-refused}
 use Rattle.requests.specs.Accepted.{Accepted}
-use Rattle.requests.specs.ListRefusals as Requests
+use Rattle.requests.specs.ListRefusals.{List-refused}
 use Rattle.desk.specs.Orders.{Order}
 
 -- ---- of a table: "Tables are tested first", then the question's own order
@@ -22,7 +22,7 @@ pub record Own (s : List ℕ) (order : Order) (number index : ℕ) : Type 0 wher
   pub breaks : Breaks order s number index
 
 abbrev pub Given : List ℕ → Order → ℕ → ℕ → Type 0
-Given s order number index = Table.Refused-with s number index ⊎ Own s order number index
+Given s order number index = Table-refused s number index ⊎ Own s order number index
 
 -- ---- of a table with a request list
 
@@ -34,10 +34,10 @@ pub record Both-good (s list : List ℕ) : Type 0 where
 -- the table is good, and the list gets this refusal
 pub record List-bad (s list : List ℕ) (number index : ℕ) : Type 0 where
   pub table-good : WellFormed s
-  pub list-bad : Requests.Refused-with (table-of s) list number index
+  pub list-bad : List-refused (table-of s) list number index
 
 abbrev pub List-given : List ℕ → List ℕ → ℕ → ℕ → Type 0
-List-given s list number index = Table.Refused-with s number index ⊎ List-bad s list number index
+List-given s list number index = Table-refused s number index ⊎ List-bad s list number index
 
 -- ---- exactly
 

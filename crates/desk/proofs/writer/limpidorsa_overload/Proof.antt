@@ -14,7 +14,7 @@ unfolding overload-asked
 returns c =
     let told = c .before in
     wrote-refused _ _ refl
-    (passed-on _ _ (told .before .before .read-table .ensures) (told .enum-told .given .1) (c .refusal-of .ensures))
+    (passed-on _ _ (told .before .before .read-table .ensures) (told .enum-told .given .1) (c .table-refusal .ensures))
 
 write-in-requires : tie.Need-write-in-requires
 write-in-requires c κs =

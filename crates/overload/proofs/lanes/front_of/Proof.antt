@@ -16,11 +16,11 @@ abbrev μ-loop : tie.MeasureT-loop
 loop-holds : tie.Need-loop-holds Inv-loop μ-loop
 loop-holds c = tried-start
 
-better-requires : tie.Need-better-requires Inv-loop μ-loop
-better-requires c κs = (tried-low (c .before .loop .inv) (search needs), search needs)
+better-of-requires : tie.Need-better-of-requires Inv-loop μ-loop
+better-of-requires c κs = (tried-low (c .before .loop .inv) (search needs), search needs)
 
 loop-again : tie.Need-loop-again Inv-loop μ-loop
-loop-again c = tried-turn (c .before .before .loop .inv) (search needs) (c .better .ensures)
+loop-again c = tried-turn (c .before .before .loop .inv) (search needs) (c .better-of .ensures)
 
 returns : tie.Need-returns Inv-loop μ-loop
 returns c = tried-end (c .before .loop .inv) (search needs)
@@ -32,7 +32,7 @@ front-of-spec =
     Inv-loop
     μ-loop
     loop-holds
-    better-requires
+    better-of-requires
     (λ c. search needs)
     (λ c. search needs)
     loop-again

@@ -4,7 +4,7 @@
 use mathlib.Core.List.{List}
 use Prim.Native.Nat.{ℕ}
 use Rattle.model.proofs.EdgeExamples.{edges}
-use Rattle.model.proofs.JobExamples.{too-many, released-first, one-done, ends-early, placed-first}
+use Rattle.model.proofs.JobExamples.{too-many-jobs, released-first, one-done, ends-early, placed-first}
 use Rattle.model.proofs.PeakStart.{from-the-peak, from-the-heaviest, heaviest-start}
 use Rattle.table.specs.Bytes.{Bytes}
 use Rattle.promise.specs.Demands.{Demands, Promised}
@@ -87,7 +87,7 @@ examples =
       from-the-peak = from-the-peak;
       from-the-heaviest = from-the-heaviest;
       heaviest-start = heaviest-start;
-      too-many = too-many;
+      too-many = too-many-jobs;
       released-first = released-first;
       one-done = one-done;
       ends-early = ends-early;

@@ -3,7 +3,7 @@ use table::plan::Plan;
 ghost use mathlib.Core.Path.{_≡_};
 ghost use Prim.Native.Nat.{_≤_, _<_};
 ghost use Rattle.table.specs.TableOf.{table-of};
-ghost use Rattle.overload.specs.Lanes.{front, better-of, Movable, moved-on};
+ghost use Rattle.overload.specs.Lanes.{front, better-of, Movable, lanes-moved};
 
 // Of each task, how many of its requests are left, and the frame and the arrival of the next.
 pub struct Lanes {
@@ -43,7 +43,7 @@ fn better_of(lanes: Lanes, best: usize, k: usize) -> usize
 // One request of task k is taken.
 pub fn move_on(s: &[u8], plan: Plan, lanes: Lanes, k: usize) -> Lanes
     requires { ⌜ Movable (now s) plan lanes k ⌝ }
-    ensures { λ r. ⌜ r ≡ moved-on (table-of (now (s .entry))) lanes k ⌝ }
+    ensures { λ r. ⌜ r ≡ lanes-moved (table-of (now (s .entry))) lanes k ⌝ }
 {
     let i = lanes.frame[k] as usize;
     let frames = table::frame::count_frames(s, plan, k);

@@ -52,8 +52,8 @@ module _ (s : List ℕ) (shape : Shape) (read : reading-of s ≡ reading.Table s
   -- ---- one task: 9, then 7
 
   module _ (sum : Task → ℕ → ℕ) (k t : ℕ) where
-    pub no-such-task : shape .tasks ≤ k → refused 9 0 ≡ one-task sum s k t
-    no-such-task past = rw (read, le-leb (table-of s .tasks) k (omega (arith, tasks)))
+    pub task-missing : shape .tasks ≤ k → refused 9 0 ≡ one-task sum s k t
+    task-missing past = rw (read, le-leb (table-of s .tasks) k (omega (arith, tasks)))
 
     pub task-too-far : k < shape .tasks → horizon < t → refused 7 0 ≡ one-task sum s k t
     task-too-far inside far = rw (read, lt-leb (table-of s .tasks) k (omega (arith, tasks)), lt-ltb horizon t far)

@@ -13,8 +13,8 @@ use Rattle.model.specs.Answer.{Answer, answered}
 use Rattle.table.specs.TableOf.{table-of}
 use Rattle.table.specs.WellFormed.{WellFormed}
 use Rattle.requests.specs.Entry.{list-of}
-use Rattle.desk.specs.Orders.{Order}
-use Rattle.desk.specs.Questions.{asked}
+use Rattle.desk.specs.Orders.{Test-order}
+use Rattle.desk.specs.Questions.{on-order}
 use Rattle.desk.specs.ListQuestions.{on-list}
 use Rattle.promise.specs.Given.{Given, List-given, Exactly}
 use Rattle.promise.specs.Forms.{Form}
@@ -32,8 +32,8 @@ pub record Told {A : Type 0} (Given : ℕ → ℕ → Type 0) (said : Answer A) 
 
 module _ {A : Type 0} {form : Form A} (s : List ℕ) (keeps : Kept form) where
   -- each test of the order is right, and its numbers are of the table
-  pub by-order : (order : Order) (ask : Table → A) → (WellFormed s → Caught order s s)
-      → all-numbers numbers-one order ≡ true → Told (Given s order) (asked s order ask) (ask (table-of s)) form
+  pub by-order : (order : Test-order) (ask : Table → A) → (WellFormed s → Caught order s s)
+      → all-numbers numbers-one order ≡ true → Told (Given s order) (on-order s order ask) (ask (table-of s)) form
   by-order order ask right all =
       let exact = order-exact s order ask right in
       record {

@@ -15,7 +15,7 @@ use Rattle.laws.proofs.LadderLaws.{breaks-number}
 use Rattle.table.specs.WellFormed.{table-rules}
 use Rattle.table.specs.TableRefusals.{Table-refused}
 use Rattle.requests.specs.Accepted.{list-rules}
-use Rattle.desk.specs.Orders.{Order}
+use Rattle.desk.specs.Orders.{Test-order}
 use Rattle.promise.specs.Given.{Given, List-given}
 use Rattle.promise.specs.RefusalCases.{last-refusal, Numbers-one}
 
@@ -48,7 +48,7 @@ module _ (s : List ℕ) where
             is-one number (breaks-number (l, index) numbers-one (list-rules _ _) refl number 0 (broken .breaks))
       ]
 
-  pub order-numbered : (order : Order) → all-numbers numbers-one order ≡ true → (number index : ℕ)
+  pub order-numbered : (order : Test-order) → all-numbers numbers-one order ≡ true → (number index : ℕ)
       → Given s order number index → Numbers-one number
   order-numbered order all number index (inl bad) = table-numbered number index bad
   order-numbered order all number index (inr own) =

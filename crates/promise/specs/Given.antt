@@ -12,16 +12,16 @@ use Rattle.table.specs.WellFormed.{WellFormed}
 use Rattle.table.specs.TableRefusals.{Table-refused}
 use Rattle.requests.specs.Accepted.{Accepted}
 use Rattle.requests.specs.ListRefusals.{List-refused}
-use Rattle.desk.specs.Orders.{Order}
+use Rattle.desk.specs.Orders.{Test-order}
 
 -- ---- of a table: "Tables are tested first", then the question's own order
 
 -- the bytes are a table, and the first rule of the order that they break gives this refusal
-pub record Own (s : List ℕ) (order : Order) (number index : ℕ) : Type 0 where
+pub record Own (s : List ℕ) (order : Test-order) (number index : ℕ) : Type 0 where
   pub table-good : WellFormed s
   pub breaks : Breaks order s number index
 
-abbrev pub Given : List ℕ → Order → ℕ → ℕ → Type 0
+abbrev pub Given : List ℕ → Test-order → ℕ → ℕ → Type 0
 Given s order number index = Table-refused s number index ⊎ Own s order number index
 
 -- ---- of a table with a request list

@@ -32,7 +32,7 @@ use Rattle.promise.proofs.PassedLaws.{passed}
 use Rattle.promise.proofs.OverloadedLaws.{overloaded-shown}
 use Rattle.promise.proofs.WritingExact.{over-judged}
 use Rattle.promise.proofs.WrittenBack.{wrote-list, wrote-none}
-use Rattle.promise.proofs.FlatSays.{is-overload, is-fit, is-open, is-refusal, four, not-missed, is-missed}
+use Rattle.promise.proofs.FlatSays.{is-overload, is-fit, is-open, is-refusal, verdict-low, not-missed, is-missed}
 
 module _ (s : Slice) (bytes : Bytes (now s)) where
   -- a list that is replayed was accepted
@@ -111,7 +111,7 @@ module _ (s : Slice) (bytes : Bytes (now s)) where
         refuses = λ r j none.
             judged-by (λ q. Table-refused (now s) (q .refusal .number) (q .refusal .index)) r j
             (is-refusal (now s) bytes said refl (number-is 0 r j none));
-        no-other = λ r j. judged-by (λ q. q .verdict ≤ 3) r j (four said);
+        no-other = λ r j. judged-by (λ q. q .verdict ≤ 3) r j (verdict-low said);
         wrote = wrote;
         left-alone = λ buffer place r after (κ, ℓ, (x, wrote, left)) some.
             left ∙ wrote-none (now s) bytes (now buffer) place wrote some;

@@ -64,12 +64,12 @@ module _ (s : List ℕ) (bytes : Bytes s) where
         | inr own ↦ absurd (own .breaks)
       ]
 
-pub four : (said : Answer Rule.Verdict) → flat-verdict said .verdict ≤ 3
+pub verdict-low : (said : Answer Rule.Verdict) → flat-verdict said .verdict ≤ 3
 unfolding flat-verdict
-four (answered (Rule.overloaded t m starts)) = omega arith
-four (answered (Rule.fits w m t)) = omega arith
-four (answered Rule.undecided) = omega arith
-four (refused number index) = omega arith
+verdict-low (answered (Rule.overloaded t m starts)) = omega arith
+verdict-low (answered (Rule.fits w m t)) = omega arith
+verdict-low (answered Rule.undecided) = omega arith
+verdict-low (refused number index) = omega arith
 
 -- ---- a replay by its fields
 

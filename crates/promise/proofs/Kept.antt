@@ -26,7 +26,7 @@ use Rattle.promise.proofs.PassedExample.{A-legal, A-unbounded, A-finish
 use Rattle.promise.proofs.LongestExample.{longest-judged}
 use Rattle.promise.proofs.LegalNeeded.{not-legal, not-finished}
 use Rattle.promise.proofs.OverloadedExample.{B-is-written, own-leaves, other-leaves, B-misses}
-use Rattle.promise.proofs.LimitExample.{over-judged}
+use Rattle.promise.proofs.LimitExample.{limit-judged}
 use Rattle.promise.proofs.UndecidedExample.{each-2-judged, each-21846-judged}
 use Rattle.promise.proofs.RefusalExamples.{A-unwritten, B-none, late-one}
 use Rattle.promise.proofs.FlatExamples.{flat-longest, flat-last, flat-two, flat-empty}
@@ -72,7 +72,7 @@ examples =
       own-leaves = own-leaves;
       other-leaves = other-leaves;
       B-misses = B-misses;
-      last-t = over-judged;
+      last-t = limit-judged;
       two-undecided = each-2-judged;
       third-undecided = each-21846-judged;
       cases = cases-given;

@@ -57,7 +57,7 @@ slots-turn f i {v} room is =
 
 -- ---- the four arrays
 
-pub record Loading (s list : List ℕ) (n i : ℕ) (left due arrive release task : List ℕ) : Type 0 where
+pub record Loading-to (s list : List ℕ) (n i : ℕ) (left due arrive release task : List ℕ) : Type 0 where
   pub within : i ≤ n
   pub few : n ≤ most-requests
   pub listed : Listed (table-of s) list n
@@ -68,7 +68,7 @@ pub record Loading (s list : List ℕ) (n i : ℕ) (left due arrive release task
   pub task-is : task ≡ slots-of i (jobs-of (table-of s) (list-of list) .task)
 
 pub loading-start : {s list : List ℕ} {n : ℕ} → Listed (table-of s) list n
-    → let none : List ℕ = replicate most-requests 0 in Loading s list n 0 none none none none none
+    → let none : List ℕ = replicate most-requests 0 in Loading-to s list n 0 none none none none none
 loading-start {s} {list} listed =
     let jobs = jobs-of (table-of s) (list-of list) in
     record {
@@ -83,7 +83,7 @@ loading-start {s} {list} listed =
     }
 
 module _ {s list : List ℕ} {n i : ℕ} {left due arrive release task : List ℕ}
-    (so-far : Loading s list n i left due arrive release task) where
+    (so-far : Loading-to s list n i left due arrive release task) where
   module _ (more : i < n) where
     here : i < entries list
     here = omega (arith, so-far .listed .count-is)
@@ -96,7 +96,7 @@ module _ {s list : List ℕ} {n i : ℕ} {left due arrive release task : List �
       loading-placed = rw read (accepted-placed (so-far .listed .accepted) i here)
 
       pub loading-turn : {slot : Slot} → Slot-is (table-of s) x slot
-          → Loading s list n (i + 1) (set left i (slot .left)) (set due i (slot .due)) (set arrive i (slot .arrive))
+          → Loading-to s list n (i + 1) (set left i (slot .left)) (set due i (slot .due)) (set arrive i (slot .arrive))
           (set release i (slot .release)) (set task i (slot .task))
       loading-turn {slot} is =
           let jobs = jobs-of (table-of s) (list-of list) in

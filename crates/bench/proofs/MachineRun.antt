@@ -56,15 +56,15 @@ module _ (jobs : Jobs) (fits : jobs .count ≤ most-requests) where
   unfolding loaded
   start = record { running = refl; holds = holds-start jobs (sooner jobs) fits }
 
-  abbrev pub Stands : ℕ → Bench → Type 0
-  Stands = Stage jobs (sooner jobs) (Runs-on jobs (sooner jobs)) Stopped-with
+  abbrev pub Bench-stage : ℕ → Bench → Type 0
+  Bench-stage = Stage jobs (sooner jobs) (Runs-on jobs (sooner jobs)) Stopped-with
 
-  pub run-stands : (n : ℕ) → n ≤ suc last-tick → Stands n (run-of n (loaded jobs))
+  pub run-stands : (n : ℕ) → n ≤ suc last-tick → Bench-stage n (run-of n (loaded jobs))
   run-stands =
       run-stage keeps-to (λ n. run-of n (loaded jobs)) (rw (run-none (loaded jobs)) start)
       (λ n. run-more n (loaded jobs))
 
-  running-holds : (n : ℕ) (b : Bench) → Stands n b → b .outcome ≡ Running → Holds jobs (sooner jobs) n b
+  running-holds : (n : ℕ) (b : Bench) → Bench-stage n b → b .outcome ≡ Running → Holds jobs (sooner jobs) n b
   running-holds n b (runs going behind) running = going .holds
   running-holds n b (stopped answer less stands says) running = absurd (stands .stopped running)
 

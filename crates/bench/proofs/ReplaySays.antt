@@ -9,7 +9,7 @@ use Rattle.model.specs.Task.{Table, ProperTable}
 use Rattle.model.specs.Request.{last-arrival}
 use Rattle.model.specs.Jobs.{Jobs, jobs-of}
 use Rattle.model.specs.Machine.{Order, sooner}
-use Rattle.model.specs.Replay.{Replayed, Says, last-tick}
+use Rattle.model.specs.Replay.{Replayed, Replay-says, last-tick}
 use Rattle.model.specs.Stage.{tick-in, Stops-rightly}
 use Rattle.model.proofs.ReplayLaws.{says-one}
 use Rattle.model.proofs.StageLaws.{stage-ends}
@@ -54,7 +54,7 @@ ended {jobs} {before} b ends =
     record {
       stopped = ends .stops .stopped;
       soon = omega (arith, ends .soon, answer-tick (b .outcome) (b .tick), ap tick-in answers);
-      says = subst (Says jobs before) (sym answers) (ends .says);
+      says = subst (Replay-says jobs before) (sym answers) (ends .says);
     }
 
 module _ (jobs : Jobs) (good : Replayable jobs) where
@@ -65,10 +65,10 @@ module _ (jobs : Jobs) (good : Replayable jobs) where
       let last = run-stands jobs (good .fits) (suc last-tick) (le-refl (suc last-tick)) in
       ended (run-whole (loaded jobs)) (stage-ends last-tick (good .in-time) (run-whole (loaded jobs)) last)
 
-  pub replay-says : Says jobs (sooner jobs) (replay-of jobs)
+  pub replay-says : Replay-says jobs (sooner jobs) (replay-of jobs)
   unfolding end-of
   replay-says = run-ends .says
 
   -- and nothing else says it
-  pub replay-only : (x : Replayed) → Says jobs (sooner jobs) x → x ≡ replay-of jobs
+  pub replay-only : (x : Replayed) → Replay-says jobs (sooner jobs) x → x ≡ replay-of jobs
   replay-only x says = says-one jobs (sooner jobs) x (replay-of jobs) says replay-says

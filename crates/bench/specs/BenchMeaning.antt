@@ -5,7 +5,7 @@ use mathlib.Core.Path.{_≡_}
 use Prim.Native.Nat.{ℕ, _≤_, _<_}
 use Rattle.model.specs.Jobs.{Jobs}
 use Rattle.model.specs.Machine.{Order, left-at}
-use Rattle.model.specs.Replay.{Replayed, Says, last-tick}
+use Rattle.model.specs.Replay.{Replayed, Replay-says, last-tick}
 use Rattle.requests.specs.Entry.{most-requests}
 use Rattle.bench.specs.declared.state.Bench.{Bench}
 use Rattle.bench.specs.declared.state.Outcome.the-variants.{Running}
@@ -38,4 +38,4 @@ pub record Replayable (jobs : Jobs) : Type 0 where
 pub record Ended (jobs : Jobs) (before : Order) (b : Bench) : Type 0 where
   pub stopped : b .outcome ≡ Running → ⊥
   pub soon : b .tick ≤ last-tick
-  pub says : Says jobs before (answer-of (b .outcome) (b .tick))
+  pub says : Replay-says jobs before (answer-of (b .outcome) (b .tick))

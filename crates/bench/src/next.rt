@@ -24,7 +24,7 @@ fn goes_before<'a>(
 }
 
 // One request more: the better of request i, if it is ready, and the best below it.
-fn better<'a>(
+fn better_request<'a>(
     left: &'a [u32; MOST_REQUESTS],
     due: &'a [u32; MOST_REQUESTS],
     arrive: &'a [u32; MOST_REQUESTS],
@@ -76,7 +76,7 @@ pub fn next_of<'a>(
     let mut best = MOST_REQUESTS;
     let mut i: usize = 0;
     while i < MOST_REQUESTS {
-        best = better(left, due, arrive, release, task, t, best, i);
+        best = better_request(left, due, arrive, release, task, t, best, i);
         i += 1;
     }
     best

@@ -13,7 +13,7 @@ use Rattle.table.specs.declared.reader.Shape.{Shape}
 use Rattle.table.specs.declared.reader.Refusal.{Refusal}
 use Rattle.table.specs.declared.reader.Reading.{Reading}
 use Rattle.table.specs.declared.reader.Reading.the-variants as reading
-use Rattle.table.specs.TableReader.{reading-of, refusal-in}
+use Rattle.table.specs.TableReader.{reading-of, table-refusal}
 use Rattle.table.specs.Bytes.{size, most-records}
 use Rattle.table.specs.TableOf.{table-of, plan-of}
 use Rattle.table.specs.declared.plan.Plan.{Plan}
@@ -23,9 +23,10 @@ use Rattle.desk.specs.Questions.{after-reading, read-asked, one-task, at
 
 -- the table's refusal is passed on, whatever else would be said
 pub passed-on : {A : Type 0} (s : List ℕ) (said : Answer A) {r : Reading} {y no : Refusal} → r ≡ reading-of s
-    → r ≡ reading.Refused y → no ≡ refusal-in r → refused (no .number) (no .index) ≡ after-reading (reading-of s) said
+    → r ≡ reading.Refused y → no ≡ table-refusal r
+    → refused (no .number) (no .index) ≡ after-reading (reading-of s) said
 passed-on s said read told taken =
-    ap (λ (x : Refusal). refused (x .number) (x .index)) (taken ∙ ap refusal-in told)
+    ap (λ (x : Refusal). refused (x .number) (x .index)) (taken ∙ ap table-refusal told)
     ∙ sym (ap (λ (x : Reading). after-reading x said) (sym read ∙ told))
 
 module _ (s : List ℕ) (shape : Shape) (read : reading-of s ≡ reading.Table shape) where
@@ -51,8 +52,8 @@ module _ (s : List ℕ) (shape : Shape) (read : reading-of s ≡ reading.Table s
   -- ---- one task: 9, then 7
 
   module _ (sum : Task → ℕ → ℕ) (k t : ℕ) where
-    pub no-such-task : shape .tasks ≤ k → refused 9 0 ≡ one-task sum s k t
-    no-such-task past = rw (read, le-leb (table-of s .tasks) k (omega (arith, tasks)))
+    pub task-missing : shape .tasks ≤ k → refused 9 0 ≡ one-task sum s k t
+    task-missing past = rw (read, le-leb (table-of s .tasks) k (omega (arith, tasks)))
 
     pub task-too-far : k < shape .tasks → horizon < t → refused 7 0 ≡ one-task sum s k t
     task-too-far inside far = rw (read, lt-leb (table-of s .tasks) k (omega (arith, tasks)), lt-ltb horizon t far)

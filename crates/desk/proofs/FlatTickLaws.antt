@@ -16,19 +16,19 @@ module _ (s : State) where
   abbrev by-tests : Bool → Bool → State
   by-tests runs past = cond runs (cond past s (flat-bench (tick-of (running s)))) s
 
-  pub tick-stopped : (s .outcome ≡ 0 → ⊥) → s ≡ flat-tick s
+  pub flat-tick-stopped : (s .outcome ≡ 0 → ⊥) → s ≡ flat-tick s
   unfolding flat-tick
-  tick-stopped stopped =
+  flat-tick-stopped stopped =
       sym (ap (λ (b : Bool). by-tests b (ltb last-tick (s .tick))) (ne-eqb (s .outcome) 0 stopped))
 
-  pub tick-past : s .outcome ≡ 0 → last-tick < s .tick → s ≡ flat-tick s
+  pub flat-tick-past : s .outcome ≡ 0 → last-tick < s .tick → s ≡ flat-tick s
   unfolding flat-tick
-  tick-past runs past =
+  flat-tick-past runs past =
       sym (ap₂ by-tests (eq-eqb (s .outcome) 0 runs) (lt-ltb last-tick (s .tick) past))
 
-  pub tick-running : {b next : Bench} {r : State} → s .outcome ≡ 0 → s .tick ≤ last-tick → b ≡ running s
+  pub flat-tick-running : {b next : Bench} {r : State} → s .outcome ≡ 0 → s .tick ≤ last-tick → b ≡ running s
       → next ≡ tick-of b → r ≡ flat-bench next → r ≡ flat-tick s
   unfolding flat-tick
-  tick-running runs within is-bench is-next is =
+  flat-tick-running runs within is-bench is-next is =
       is ∙ ap flat-bench (is-next ∙ ap tick-of is-bench)
       ∙ sym (ap₂ by-tests (eq-eqb (s .outcome) 0 runs) (le-ltb last-tick (s .tick) within))

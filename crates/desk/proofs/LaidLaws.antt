@@ -51,19 +51,19 @@ ending-laid (Replay.missed tick index) = refl
 ending-laid (Replay.all-met tick) = refl
 
 -- the margin is the one thing in a verdict that is signed
-pub verdict-kept : (with-margin : ℤ → Verdict) (starts : List ℕ) {v : Verdict} (m : ℤ) → mag m < 2 ^ 63
+pub margin-laid : (with-margin : ℤ → Verdict) (starts : List ℕ) {v : Verdict} (m : ℤ) → mag m < 2 ^ 63
     → with-margin m ≡ v → laid-verdict (with-margin (toZ w64 (ofZ w64 m))) starts ≡ laid-verdict v starts
-verdict-kept with-margin starts m small is =
+margin-laid with-margin starts m small is =
     ap (λ (z : ℤ). laid-verdict (with-margin z) starts) (signed-kept m small)
     ∙ ap (λ (v : Verdict). laid-verdict v starts) is
 
 -- ---- the writer
 
 -- a refusal is the answer, and the buffer stays
-pub wrote-refused : (buffer : List ℕ) (place : ℕ) {x y : Refusal} {said : Answer (List ℕ)} → x ≡ y
+pub refused-laid : (buffer : List ℕ) (place : ℕ) {x y : Refusal} {said : Answer (List ℕ)} → x ≡ y
     → refused (y .number) (y .index) ≡ said → Flat-wrote buffer place said (record { refusal = x; bytes = 0 }) buffer
 unfolding flat-written
-wrote-refused buffer place same is = rw (sym is, same) (record { answer-is = refl; buffer-is = refl })
+refused-laid buffer place same is = rw (sym is, same) (record { answer-is = refl; buffer-is = refl })
 
 written-laid : (said : Answer (List ℕ)) → laid-written (written-of said) ≡ flat-written (seen length said)
 unfolding laid-written flat-written

@@ -16,7 +16,7 @@ use Rattle.table.proofs.Rising.{few-tasks}
 use Rattle.requests.specs.declared.list_reader.Checked.{Checked}
 use Rattle.requests.specs.declared.list_reader.Checked.the-variants.{Legal, Refused}
 use Rattle.requests.specs.Entry.{list-of}
-use Rattle.requests.specs.ListReader.{check-of, refusal-in}
+use Rattle.requests.specs.ListReader.{check-of, list-refusal}
 use Rattle.requests.specs.Accepted.{Listed}
 use Rattle.requests.proofs.ListReaderExact.{check-count}
 use Rattle.requests.proofs.AcceptedLaws.{listed}
@@ -28,10 +28,10 @@ module _ (s list : List ℕ) (shape : Shape) (read : reading-of s ≡ reading.Ta
 
   module _ {r : Checked} (is : r ≡ check-of (table-of s) list) where
     -- the list's refusal is passed on
-    pub list-refused : {A : Type 0} (ask : Table → Requests → A) {y no : Refusal} → r ≡ Refused y → no ≡ refusal-in r
+    pub list-refused : {A : Type 0} (ask : Table → Requests → A) {y no : Refusal} → r ≡ Refused y → no ≡ list-refusal r
         → refused (no .number) (no .index) ≡ on-list s list ask
     list-refused ask told taken =
-        ap (λ (x : Refusal). refused (x .number) (x .index)) (taken ∙ ap refusal-in told)
+        ap (λ (x : Refusal). refused (x .number) (x .index)) (taken ∙ ap list-refusal told)
         ∙ rw (read, sym is ∙ told)
 
     module _ {n : ℕ} (told : r ≡ Legal n) where

@@ -21,9 +21,9 @@ use Rattle.desk.specs.Questions.{response-asked}
 
 module _ (s : List ℕ) (shape : Shape) (read : reading-of s ≡ reading.Table shape) (k i : ℕ)
     {missing : Bool} (told : missing ≡ no-frame (table-of s) k i) where
-  pub no-such-frame : missing ≡ true → refused 9 0 ≡ response-asked s k i
+  pub response-no-frame : missing ≡ true → refused 9 0 ≡ response-asked s k i
   unfolding response-asked
-  no-such-frame gone = rw (read, sym told ∙ gone)
+  response-no-frame gone = rw (read, sym told ∙ gone)
 
   module _ (there : missing ≡ false) where
     pub has-frame : Has-frame (table-of s) k i

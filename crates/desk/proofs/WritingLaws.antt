@@ -30,8 +30,8 @@ use Rattle.verdict.specs.VerdictWritten.{judged-of}
 use Rattle.verdict.proofs.judge.Verdict.{the-type}
 use Rattle.overload.specs.Counts.{Asked}
 use Rattle.place.specs.Place.{fitted}
-use Rattle.desk.specs.Orders.{Order, not-overloaded, is-calm, list-at}
-use Rattle.desk.specs.Questions.{asked, size-asked, overload-asked}
+use Rattle.desk.specs.Orders.{Test-order, not-overloaded, is-calm, list-at}
+use Rattle.desk.specs.Questions.{on-order, size-asked, overload-asked}
 
 -- ---- the verdict taken apart
 
@@ -51,8 +51,8 @@ overload-told Rule.undecided told = let apart : _≡_ {A = ℕ} 0 1 = cc in absu
 module _ (s : List ℕ) (shape : Shape) (read : reading-of s ≡ reading.Table shape) {judged : Judged}
     (is : judged ≡ judged-of (verdict horizon (table-of s))) where
   -- 13 comes first, whatever else is asked of the list
-  pub calm-refused : {A : Type 0} (more : Order) (ask : Table → A)
-      → OneOf (1 ∷ 2 ∷ []) (tagOf the-type (judged .verdict)) → refused 13 0 ≡ asked s (not-overloaded ∷ more) ask
+  pub calm-refused : {A : Type 0} (more : Test-order) (ask : Table → A)
+      → OneOf (1 ∷ 2 ∷ []) (tagOf the-type (judged .verdict)) → refused 13 0 ≡ on-order s (not-overloaded ∷ more) ask
   calm-refused more ask tag = rw (read, other-calm (verdict horizon (table-of s)) (rw is at tag))
 
   module _ {t : ℕ} {m : ℤ} (told : judged .verdict ≡ Overloaded t m) where

@@ -22,8 +22,8 @@ use Rattle.requests.specs.Entry.{bytes-of}
 use Rattle.place.specs.Place.{no-room}
 use Rattle.table.specs.Deadlines.{first-above, Within-P, First-above}
 
-abbrev pub Order : Type 1
-Order = List (Rule (List ℕ) (List ℕ))
+abbrev pub Test-order : Type 1
+Test-order = List (Rule (List ℕ) (List ℕ))
 
 -- ---- the rules
 
@@ -96,23 +96,23 @@ lacks-room buffer place =
 -- ---- the orders
 
 -- "Tables are tested first", and nothing after
-abbrev pub table-only : Order
+abbrev pub table-only : Test-order
 table-only = []
 
-abbrev pub time-order : ℕ → Order
+abbrev pub time-order : ℕ → Test-order
 time-order t = too-far t ∷ []
 
 -- "for one task's demand or work, 9 before 7"
-abbrev pub task-order : ℕ → ℕ → Order
+abbrev pub task-order : ℕ → ℕ → Test-order
 task-order k t = no-such-task k ∷ too-far t ∷ []
 
 -- "9 then 8"
-abbrev pub frame-order : ℕ → ℕ → Order
+abbrev pub frame-order : ℕ → ℕ → Test-order
 frame-order k i = no-such-frame k i ∷ above-P ∷ []
 
 -- "13 then 12"
-abbrev pub size-order : Order
+abbrev pub size-order : Test-order
 size-order = not-overloaded ∷ []
 
-abbrev pub writing-order : List ℕ → ℕ → Order
+abbrev pub writing-order : List ℕ → ℕ → Test-order
 writing-order buffer place = not-overloaded ∷ lacks-room buffer place ∷ []

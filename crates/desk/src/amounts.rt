@@ -21,7 +21,7 @@ pub extern "C" fn limpidorsa_read(table: &[u8]) -> Shape
     let reading = table::reader::read_table(table);
     let Reading::Table(shape) = reading else {
         return Shape {
-            refusal: table::reader::refusal_of(reading),
+            refusal: table::reader::table_refusal(reading),
             tasks: 0,
             records: 0,
         };
@@ -64,7 +64,7 @@ fn ask_sum(table: &[u8], task: u64, t: u64, due: bool) -> Amount
     let reading = table::reader::read_table(table);
     let Reading::Table(shape) = reading else {
         return Amount {
-            refusal: table::reader::refusal_of(reading),
+            refusal: table::reader::table_refusal(reading),
             amount: 0,
         };
     };
@@ -114,7 +114,7 @@ pub extern "C" fn limpidorsa_margin(table: &[u8], t: u64) -> Margin
     let reading = table::reader::read_table(table);
     let Reading::Table(shape) = reading else {
         return Margin {
-            refusal: table::reader::refusal_of(reading),
+            refusal: table::reader::table_refusal(reading),
             margin: 0,
         };
     };

@@ -23,7 +23,7 @@ pub extern "C" fn limpidorsa_list<'a, 'b>(table: &'a [u8], list: &'b [u8]) -> Li
     let reading = table::reader::read_table(table);
     let Reading::Table(shape) = reading else {
         return Listed {
-            refusal: table::reader::refusal_of(reading),
+            refusal: table::reader::table_refusal(reading),
             records: 0,
         };
     };
@@ -31,7 +31,7 @@ pub extern "C" fn limpidorsa_list<'a, 'b>(table: &'a [u8], list: &'b [u8]) -> Li
     let checked = requests::list_reader::check_list(table, plan, list);
     let Checked::Legal(records) = checked else {
         return Listed {
-            refusal: requests::list_reader::refusal_of(checked),
+            refusal: requests::list_reader::list_refusal(checked),
             records: 0,
         };
     };
@@ -50,7 +50,7 @@ fn load_in<'a, 'b>(table: &'a [u8], shape: Shape, list: &'b [u8]) -> Loaded
     let checked = requests::list_reader::check_list(table, plan, list);
     let Checked::Legal(records) = checked else {
         return Loaded {
-            refusal: requests::list_reader::refusal_of(checked),
+            refusal: requests::list_reader::list_refusal(checked),
             records: 0,
             state: flat_bench(bench::load::empty()),
         };
@@ -70,7 +70,7 @@ pub extern "C" fn limpidorsa_load<'a, 'b>(table: &'a [u8], list: &'b [u8]) -> Lo
     let reading = table::reader::read_table(table);
     let Reading::Table(shape) = reading else {
         return Loaded {
-            refusal: table::reader::refusal_of(reading),
+            refusal: table::reader::table_refusal(reading),
             records: 0,
             state: flat_bench(bench::load::empty()),
         };
@@ -106,7 +106,7 @@ fn replay_in<'a, 'b>(table: &'a [u8], shape: Shape, list: &'b [u8]) -> Ending
     let checked = requests::list_reader::check_list(table, plan, list);
     let Checked::Legal(n) = checked else {
         return Ending {
-            refusal: requests::list_reader::refusal_of(checked),
+            refusal: requests::list_reader::list_refusal(checked),
             missed: false,
             tick: 0,
             index: 0,
@@ -124,7 +124,7 @@ pub extern "C" fn limpidorsa_replay<'a, 'b>(table: &'a [u8], list: &'b [u8]) -> 
     let reading = table::reader::read_table(table);
     let Reading::Table(shape) = reading else {
         return Ending {
-            refusal: table::reader::refusal_of(reading),
+            refusal: table::reader::table_refusal(reading),
             missed: false,
             tick: 0,
             index: 0,

@@ -65,7 +65,7 @@ pub extern "C" fn limpidorsa_response(table: &[u8], task: u64, frame: u64) -> Re
     let reading = table::reader::read_table(table);
     let Reading::Table(shape) = reading else {
         return Response {
-            refusal: table::reader::refusal_of(reading),
+            refusal: table::reader::table_refusal(reading),
             late: false,
             value: 0,
             round: 0,

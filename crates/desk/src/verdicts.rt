@@ -39,7 +39,7 @@ pub extern "C" fn limpidorsa_window(table: &[u8]) -> Window
     let reading = table::reader::read_table(table);
     let Reading::Table(shape) = reading else {
         return Window {
-            refusal: table::reader::refusal_of(reading),
+            refusal: table::reader::table_refusal(reading),
             closes: false,
             window: 0,
         };
@@ -87,7 +87,7 @@ pub extern "C" fn limpidorsa_verdict(table: &[u8]) -> Verdict
     let reading = table::reader::read_table(table);
     let Reading::Table(shape) = reading else {
         return Verdict {
-            refusal: table::reader::refusal_of(reading),
+            refusal: table::reader::table_refusal(reading),
             verdict: 0,
             t: 0,
             margin: 0,

@@ -43,7 +43,7 @@ pub extern "C" fn limpidorsa_overload_size(table: &[u8]) -> Written
     let reading = table::reader::read_table(table);
     let Reading::Table(shape) = reading else {
         return Written {
-            refusal: table::reader::refusal_of(reading),
+            refusal: table::reader::table_refusal(reading),
             bytes: 0,
         };
     };
@@ -100,7 +100,7 @@ pub extern "C" fn limpidorsa_overload<'a, 'b>(
     let reading = table::reader::read_table(table);
     let Reading::Table(shape) = reading else {
         return Written {
-            refusal: table::reader::refusal_of(reading),
+            refusal: table::reader::table_refusal(reading),
             bytes: 0,
         };
     };

@@ -10,7 +10,7 @@ use lib.Dec.{eqb}
 use borrow.Author.Tests.{eqb-true}
 use Rattle.laws.specs.Ladder.{Rule, climb, Keeps, Breaks, all-numbers}
 use Rattle.laws.proofs.Every.{and-true-left, and-true-right}
-use Rattle.laws.proofs.Tests.{Catches, kept, broken}
+use Rattle.laws.proofs.Tests.{Catches, rule-kept, rule-broken}
 
 -- ---- tests that are right
 
@@ -41,16 +41,17 @@ rung here rest = record { here = here; points = λ fails. points-0; rest = rest 
 module _ {X Y A : Type 0} (refuse : ℕ → ℕ → A) (x : X) (y : Y) (a : A) where
   pub climb-kept : (rules : List (Rule X Y)) → Caught rules x y → Keeps rules y → climb rules refuse x a ≡ a
   climb-kept [] caught keeps = refl
-  climb-kept (r ∷ rs) caught (says, keeps) = rw (kept (caught .here) says) (climb-kept rs (caught .rest says) keeps)
+  climb-kept (r ∷ rs) caught (says, keeps) =
+      rw (rule-kept (caught .here) says) (climb-kept rs (caught .rest says) keeps)
 
   pub climb-broken : (rules : List (Rule X Y)) (number index : ℕ) → Caught rules x y → Breaks rules y number index
       → climb rules refuse x a ≡ refuse number index
   climb-broken [] number index caught breaks = absurd breaks
   climb-broken (r ∷ rs) number index caught (inl bad) =
-      rw (broken (caught .here) (bad .fails))
+      rw (rule-broken (caught .here) (bad .fails))
       (ap₂ refuse (sym (bad .number-is)) (sym (caught .points (bad .fails) .only index (bad .carries))))
   climb-broken (r ∷ rs) number index caught (inr (says, breaks)) =
-      rw (kept (caught .here) says) (climb-broken rs number index (caught .rest says) breaks)
+      rw (rule-kept (caught .here) says) (climb-broken rs number index (caught .rest says) breaks)
 
 -- all hold, or there is a first that is broken
 pub keeps-or-breaks : {X Y : Type 0} (x : X) (y : Y) (rules : List (Rule X Y)) → Caught rules x y

@@ -11,7 +11,7 @@ use native.Mathlib.Numerals.{add-one}
 use borrow.Author.Count.{below-none, below-more}
 use Rattle.laws.specs.Reader.{Reader, Read, whole, stopped, read-all, Bad-length, Bad-record}
 use Rattle.laws.proofs.ReaderLaws.{read-short, Reads-on, reads-start, reads-turn, reads-stopped, reads-whole}
-use Rattle.laws.proofs.Tests.{Catches, kept, broken}
+use Rattle.laws.proofs.Tests.{Catches, rule-kept, rule-broken}
 
 -- rules, said of the bytes alone, and what the reader has to know of the records passed to test them
 pub record Rules {S R : Type 0} (reader : Reader S R) : Type 1 where
@@ -53,7 +53,7 @@ module _ {S R : Type 0} {reader : Reader S R} (rules : Rules reader) where
 
   reach-start : rules .Long → Reached 0
   reach-start long =
-      record { b = reader .start; reads = reads-start reader refl (kept (rules .long) long); known = rules .start }
+      record { b = reader .start; reads = reads-start reader refl (rule-kept (rules .long) long); known = rules .start }
 
   module _ {i : ℕ} (at : Reached i) where
     reach-next : i < reader .count → rules .Good i → Reached (i + 1)
@@ -117,6 +117,6 @@ module _ {S R : Type 0} {reader : Reader S R} (rules : Rules reader) where
 
   pub faulty-read : (number index : ℕ) → Faulty number index → read-all reader ≡ stopped number index
   faulty-read number index (inl bad) =
-      rw (bad .number-is, bad .index-is) (read-short reader (broken (rules .long) (bad .wrong)))
+      rw (bad .number-is, bad .index-is) (read-short reader (rule-broken (rules .long) (bad .wrong)))
   faulty-read number index (inr bad) =
       reach-stopped (reach (bad .long) index (omega (arith, bad .within)) (bad .before)) (bad .within) (bad .breaks)

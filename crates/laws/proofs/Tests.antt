@@ -15,15 +15,15 @@ pub record Catches (test : Bool) (rule : Type 0) : Type 0 where
 -- ---- from the rule to the test
 
 module _ {test : Bool} {rule : Type 0} (by : Catches test rule) where
-  pub kept : rule → test ≡ false
-  kept holds = which test refl
+  pub rule-kept : rule → test ≡ false
+  rule-kept holds = which test refl
     where
       which : (t : Bool) → test ≡ t → test ≡ false
       which true e = absurd (by .caught e holds)
       which false e = e
 
-  pub broken : (rule → ⊥) → test ≡ true
-  broken fails = which test refl
+  pub rule-broken : (rule → ⊥) → test ≡ true
+  rule-broken fails = which test refl
     where
       which : (t : Bool) → test ≡ t → test ≡ true
       which true e = e

@@ -10,7 +10,7 @@ use Rattle.laws.proofs.GateLaws.{only-mono}
 use Rattle.laws.proofs.SumLaws.{sum-cong, sum-mono, sum-past}
 use Rattle.model.specs.Task.{Table, Task-set}
 use Rattle.model.specs.Response.{Response, response-by, share-of, share-over, response-over, above-in-table, higher-share, response}
-use Rattle.model.specs.ResponseMeaning.{Never-falls, Says}
+use Rattle.model.specs.ResponseMeaning.{Never-falls, Response-says}
 use Rattle.model.proofs.ResponseLaws.{response-says, says-only}
 use Rattle.model.proofs.ShareLaws.{share-mono}
 
@@ -32,14 +32,14 @@ module _ (table : Table) (higher : Task-set) where
     over-is = refl
 
     -- it says what the document says
-    pub over-right : Says (share-over table higher) (table .task k .E i) (table .task k .D i)
+    pub over-right : Response-says (share-over table higher) (table .task k .E i) (table .task k .D i)
         (response-over table higher k i)
     over-right =
-        subst (Says (share-over table higher) (table .task k .E i) (table .task k .D i)) (sym over-is)
+        subst (Response-says (share-over table higher) (table .task k .E i) (table .task k .D i)) (sym over-is)
         (response-says over-never-falls (table .task k .E i) (table .task k .D i))
 
     -- and whatever says that is the response
-    pub over-only : (r : Response) → Says (share-over table higher) (table .task k .E i) (table .task k .D i) r
+    pub over-only : (r : Response) → Response-says (share-over table higher) (table .task k .E i) (table .task k .D i) r
         → r ≡ response-over table higher k i
     over-only r says =
         says-only (share-over table higher) (table .task k .E i) (table .task k .D i) r says ∙ sym over-is
@@ -62,11 +62,12 @@ module _ (table : Table) (k i : ℕ) where
   unfolding response
   response-is = over-is table (above-in-table k) k i
 
-  pub response-right : Says (higher-share table k) (table .task k .E i) (table .task k .D i) (response table k i)
+  pub response-right : Response-says (higher-share table k) (table .task k .E i) (table .task k .D i)
+      (response table k i)
   unfolding response
   response-right = over-right table (above-in-table k) k i
 
   pub response-only : (r : Response)
-      → Says (higher-share table k) (table .task k .E i) (table .task k .D i) r → r ≡ response table k i
+      → Response-says (higher-share table k) (table .task k .E i) (table .task k .D i) r → r ≡ response table k i
   unfolding response
   response-only = over-only table (above-in-table k) k i

@@ -45,9 +45,9 @@ one-and-two P one two (suc zero) some within = one
 one-and-two P one two (suc (suc zero)) some within = two
 one-and-two P one two (suc (suc (suc t))) some within = absurd (omega arith)
 
-pub too-many : Too-many
+pub too-many-jobs : Too-many
 unfolding due-within units open-work came left-at pick sooner sum
-too-many =
+too-many-jobs =
     record {
       too-much = lit< tt;
       unfinished = record { job = 1; inside = lit< tt; short = lit< tt };

@@ -26,8 +26,8 @@ abbrev pub turn-of : Requests → ℕ → ℕ → Request
 turn-of list k n = list .request (place-of list k n)
 
 -- the frame of its first request
-abbrev pub first-of : Requests → ℕ → ℕ
-first-of list k = turn-of list k 0 .frame
+abbrev pub first-frame : Requests → ℕ → ℕ
+first-frame list k = turn-of list k 0 .frame
 
 module _ {table : Table} {list : Requests} (legal : Legal table list) (k : ℕ) where
   abbrev many : ℕ
@@ -52,20 +52,20 @@ module _ {table : Table} {list : Requests} (legal : Legal table list) (k : ℕ) 
   turn-follows : (n : ℕ) → suc n < many → Follows table (turn-of list k n) (turn-of list k (suc n))
   turn-follows n inside = legal .follows _ _ (at-turn (suc n) inside .below) (turn-next n inside)
 
-  pub first-inside : 0 < many → first-of list k < table .task k .count
+  pub first-inside : 0 < many → first-frame list k < table .task k .count
   first-inside some =
-      subst (λ (j : ℕ). first-of list k < table .task j .count) (turn-task 0 some)
+      subst (λ (j : ℕ). first-frame list k < table .task j .count) (turn-task 0 some)
       (legal .known _ (at-turn 0 some .below) .frame)
 
-  pub turn-frame : (n : ℕ) → n < many → turn-of list k n .frame ≡ frame (table .task k) (first-of list k) n
-  turn-frame zero inside = sym (frame-none (table .task k) (first-of list k) (first-inside inside))
+  pub turn-frame : (n : ℕ) → n < many → turn-of list k n .frame ≡ frame (table .task k) (first-frame list k) n
+  turn-frame zero inside = sym (frame-none (table .task k) (first-frame list k) (first-inside inside))
   turn-frame (suc n) inside =
       turn-follows n inside .frame-is
       ∙ ap (λ (j : ℕ). frame (table .task j) (turn-of list k n .frame) 1) (turn-task n (omega arith))
       ∙ ap (λ (i : ℕ). frame (table .task k) i 1) (turn-frame n (omega arith))
-      ∙ frame-next (table .task k) (first-of list k) n
+      ∙ frame-next (table .task k) (first-frame list k) n
 
-  pub legal-run : Run (table .task k) (first-of list k) many (λ n. turn-of list k n .arrival)
+  pub legal-run : Run (table .task k) (first-frame list k) many (λ n. turn-of list k n .arrival)
   legal-run n inside =
       omega (
         arith,

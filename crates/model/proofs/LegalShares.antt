@@ -20,7 +20,7 @@ use Rattle.model.specs.Run.{asked}
 use Rattle.model.specs.Request.{Request, Requests, of-task, Legal}
 use Rattle.model.proofs.CyclicLaws.{Moves}
 use Rattle.model.proofs.RunLaws.{asked-most}
-use Rattle.model.proofs.LegalRuns.{is-of, turn-of, first-of, turn-frame, first-inside, legal-run}
+use Rattle.model.proofs.LegalRuns.{is-of, turn-of, first-frame, turn-frame, first-inside, legal-run}
 
 module _ {table : Table} {list : Requests} (legal : Legal table list) where
   -- how many requests task k has
@@ -48,13 +48,14 @@ module _ {table : Table} {list : Requests} (legal : Legal table list) where
         share-turns k ∙ ap (λ (m : ℕ). sum m (λ n. request-asks true k (turn-of list k n))) none ∙ sum-zero _
 
     share-asked : (k : ℕ) → let arrive : ℕ → ℕ = λ n. turn-of list k n .arrival in
-        share true k ≡ asked (table .task k) (reach k) (first-of list k) (many k) arrive (since k) b
+        share true k ≡ asked (table .task k) (reach k) (first-frame list k) (many k) arrive (since k) b
     unfolding asked
     share-asked k =
         let one : ℕ → ℕ → ℕ = λ n i. only (request-lies k i (turn-of list k n .arrival)) (table .task k .E i) in
         share-turns k
         ∙ sum-cong (many k) (λ n. one n (turn-of list k n .frame))
-        (λ n. one n (frame (table .task k) (first-of list k) n)) (λ n inside. ap (one n) (turn-frame legal k n inside))
+        (λ n. one n (frame (table .task k) (first-frame list k) n))
+        (λ n inside. ap (one n) (turn-frame legal k n inside))
 
     share-most : (counts : Bool) (k : ℕ) → Moves (table .task k) (reach k)
         → share counts k ≤ only counts (most (table .task k) (reach k) (b - since k))
@@ -64,7 +65,7 @@ module _ {table : Table} {list : Requests} (legal : Legal table list) where
               omega (
                 arith,
                 share-asked k,
-                asked-most moves (since k) b (many k) (first-of list k) (λ n. turn-of list k n .arrival)
+                asked-most moves (since k) b (many k) (first-frame list k) (λ n. turn-of list k n .arrival)
                     (first-inside legal k some) (legal-run legal k),
               )
           | inr none ↦ omega (arith, share-none k (omega arith))

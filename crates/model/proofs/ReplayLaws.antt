@@ -6,7 +6,7 @@ use native.Mathlib.Omega.{arith}
 use Rattle.laws.proofs.Cases.{neither-lower}
 use Rattle.model.specs.Jobs.{Jobs}
 use Rattle.model.specs.Machine.{Order}
-use Rattle.model.specs.Replay.{Replayed, missed, all-met, Missed, Met, Says}
+use Rattle.model.specs.Replay.{Replayed, missed, all-met, Missed, Met, Replay-says}
 
 module _ (jobs : Jobs) (before : Order) where
   -- the first miss is at one tick, and at that tick one job is the lowest
@@ -29,7 +29,7 @@ module _ (jobs : Jobs) (before : Order) where
       let undone = other .worked t less in
       omega (arith, undone .undone, one .done (undone .job) (undone .inside))
 
-  pub says-one : (x y : Replayed) → Says jobs before x → Says jobs before y → x ≡ y
+  pub says-one : (x y : Replayed) → Replay-says jobs before x → Replay-says jobs before y → x ≡ y
   says-one (missed t i) (missed u j) one other = missed-one t i u j one other
   says-one (missed t i) (all-met u) miss met = absurd (met .on-time t i (miss .misses .late))
   says-one (all-met t) (missed u j) met miss = absurd (met .on-time u j (miss .misses .late))

@@ -9,7 +9,7 @@ use Rattle.laws.specs.Search.{Found, at, nowhere, least-from, place-or}
 use Rattle.laws.proofs.Cases.{lt-or-le}
 use Rattle.laws.proofs.SearchLaws.{Least, Right, least-right, least-is}
 use Rattle.model.specs.Response.{value, Response, on-time, late, settles, settled-at, response-by}
-use Rattle.model.specs.ResponseMeaning.{Never-falls, Rises-to, On-time, Late, Says}
+use Rattle.model.specs.ResponseMeaning.{Never-falls, Rises-to, On-time, Late-with, Response-says}
 use Rattle.model.proofs.ValueLaws.{value-mono, value-stays, value-climbs}
 use Rattle.model.proofs.SettleLaws.{settles-past, settles-again, settles-not, repeats-within, goes-within, goes-up, settled-late, settled-on-time, response-at}
 
@@ -31,7 +31,7 @@ module _ {share : ℕ → ℕ} (falls-never : Never-falls share) (e d : ℕ) whe
     first-within : (m : ℕ) → m < n → value share e m ≤ d
     first-within m less = goes-within share e d m (none m less)
 
-    says-late : d < value share e n → Late share e d (value share e n) n
+    says-late : d < value share e n → Late-with share e d (value share e n) n
     says-late past =
         record {
           is = refl;
@@ -51,7 +51,7 @@ module _ {share : ℕ → ℕ} (falls-never : Never-falls share) (e d : ℕ) whe
           few = omega (arith, value-climbs share e n rises);
         }
 
-    says-settled : settles share e d n ≡ true → Says share e d (settled-at share e d n)
+    says-settled : settles share e d n ≡ true → Response-says share e d (settled-at share e d n)
     says-settled settled =
         elim (lt-or-le d (value share e n)) [
           | inl past ↦ rw (settled-late share e d n past) (says-late past)
@@ -60,7 +60,7 @@ module _ {share : ℕ → ℕ} (falls-never : Never-falls share) (e d : ℕ) whe
 
   -- something is found: else value d + 1 would be within D, after d + 1 rises
   says : (f : Found) → Right (settles share e d) (suc (suc d)) 0 f
-      → Says share e d (settled-at share e d (place-or 0 f))
+      → Response-says share e d (settled-at share e d (place-or 0 f))
   says (at n) l = says-settled n (λ m less. l .first m (omega arith) less) (l .passes)
   says nowhere none =
       absurd (omega (
@@ -69,7 +69,7 @@ module _ {share : ℕ → ℕ} (falls-never : Never-falls share) (e d : ℕ) whe
         goes-within share e d (suc d) (none (suc d) (omega arith) (omega arith)),
       ))
 
-  pub response-says : Says share e d (response-by share e d)
+  pub response-says : Response-says share e d (response-by share e d)
   unfolding response-by
   response-says =
       says (least-from (settles share e d) (suc (suc d)) 0) (least-right (settles share e d) (suc (suc d)) 0)
@@ -91,7 +91,7 @@ module _ (share : ℕ → ℕ) (e d : ℕ) where
             first = λ m low less. settles-not share e d m (within m less) (rises m less);
           }
 
-  pub says-only : (r : Response) → Says share e d r → r ≡ response-by share e d
+  pub says-only : (r : Response) → Response-says share e d r → r ≡ response-by share e d
   says-only (late v n) l =
       let past : d < value share e n = omega (arith, l .is, l .passes) in
       let few : n ≤ suc d = omega (arith, late-few share e d n (l .rises) (l .first)) in

@@ -9,7 +9,7 @@ use native.Mathlib.Decide.{ℕ-discrete}
 use borrow.Author.Tests.{lt-ltb, le-ltb}
 use Rattle.laws.specs.Search.{Found, at, least-from, place-or}
 use Rattle.laws.proofs.Cases.{lt-or-le}
-use Rattle.laws.proofs.Tests.{Catches, kept, broken, catches-lt, catches-eq, catches-or}
+use Rattle.laws.proofs.Tests.{Catches, rule-kept, rule-broken, catches-lt, catches-eq, catches-or}
 use Rattle.model.specs.Response.{value, on-time, late, settles, settled-at, response-by}
 use Rattle.model.specs.ResponseMeaning.{Never-falls}
 use Rattle.model.proofs.ValueLaws.{value-grows}
@@ -25,13 +25,13 @@ module _ (share : ℕ → ℕ) (e d n : ℕ) where
       catches-or (catches-lt d (value share e n)) (catches-eq (value share e (suc n)) (value share e n))
 
   pub settles-past : d < value share e n → settles share e d n ≡ true
-  settles-past past = broken settles-test (λ goes-on. omega (arith, goes-on .0))
+  settles-past past = rule-broken settles-test (λ goes-on. omega (arith, goes-on .0))
 
   pub settles-again : value share e (suc n) ≡ value share e n → settles share e d n ≡ true
-  settles-again again = broken settles-test (λ goes-on. goes-on .1 again)
+  settles-again again = rule-broken settles-test (λ goes-on. goes-on .1 again)
 
   pub settles-not : value share e n ≤ d → value share e n < value share e (suc n) → settles share e d n ≡ false
-  settles-not within rises = kept settles-test (within, λ again. omega arith)
+  settles-not within rises = rule-kept settles-test (within, λ again. omega arith)
 
   -- ---- and back: what a value that settles has, and what one that does not
 

@@ -26,7 +26,7 @@ pub record Walking (table : Table) (limit t low at : ℕ) : Type 0 where
   pub lowest : Low-so-far (margin table) (t - 1) low at
 
 -- t is tried and no overload: d is asked at it, and the least margin is taken anew
-pub record Tried (table : Table) (limit t low at d low′ at′ : ℕ) : Type 0 where
+pub record Walking-turn (table : Table) (limit t low at d low′ at′ : ℕ) : Type 0 where
   pub more : t ≤ limit
   pub asked : d ≡ all-demands table t
   pub calm : d ≤ t
@@ -55,7 +55,7 @@ module _ {table : Table} (good : ProperTable table) (limit : ℕ) where
         ∙ walk-over table (suc limit - suc t) t (overloads-yes table t over))
         ∙ walking .rest
 
-    module _ {d low′ at′ : ℕ} (tried : Tried table limit t low at d low′ at′) where
+    module _ {d low′ at′ : ℕ} (tried : Walking-turn table limit t low at d low′ at′) where
       calm-here : all-demands table t ≤ t
       calm-here = omega (arith, tried .asked, tried .calm)
 

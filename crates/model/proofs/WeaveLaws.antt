@@ -104,16 +104,16 @@ module _ (table : Table) (runs : Runs) where
       below-suc (λ j. Chosen (taken-by table runs j)) i rest
       (chosen-if (taken-by table runs i) (omega (arith, taken-sum i (λ j less. rest j less .inside))))
 
-  pub chosen : (i : ℕ) → i < weave table runs .count → Chosen (taken-by table runs i)
-  chosen i less = chosen-before (suc i) (omega (arith, weave-count)) i (omega arith)
+  pub weave-chosen : (i : ℕ) → i < weave table runs .count → Chosen (taken-by table runs i)
+  weave-chosen i less = chosen-before (suc i) (omega (arith, weave-count)) i (omega arith)
 
   pub foremost-lt : (i : ℕ) → i < weave table runs .count
       → foremost table runs (taken-by table runs i) < table .tasks
-  foremost-lt i less = chosen i less .inside
+  foremost-lt i less = weave-chosen i less .inside
 
   pub foremost-left : (i : ℕ) → i < weave table runs .count
       → taken-by table runs i (task-at i) < runs .many (task-at i)
-  foremost-left i less = ltb-true _ _ (chosen i less .passes)
+  foremost-left i less = ltb-true _ _ (weave-chosen i less .passes)
 
   taken-most : (i k : ℕ) → i ≤ weave table runs .count → taken-by table runs i k ≤ runs .many k
   taken-most zero k within = omega (arith, taken-start k)

@@ -17,7 +17,7 @@ use Rattle.laws.proofs.TallyNext.{Next-passing, tally-next, tally-shares}
 use Rattle.model.specs.Task.{Table}
 use Rattle.model.specs.Request.{Request, Requests, Same, Before, Sorted, of-task}
 use Rattle.model.specs.Weave.{Runs, Woven, earliest}
-use Rattle.model.proofs.WovenSame.{Agree, of-task-same}
+use Rattle.model.proofs.WovenSame.{Same-below, of-task-same}
 
 -- ---- the order of requests
 
@@ -99,7 +99,7 @@ module _ {table : Table} {runs : Runs} {list : Requests} (woven : Woven table ru
 -- ---- two woven lists
 
 module _ {table : Table} {runs : Runs} {a b : Requests} (one : Woven table runs a) (other : Woven table runs b) where
-  module _ (i : ℕ) (within : i < a .count) (inside : i < b .count) (agree : Agree a b i) where
+  module _ (i : ℕ) (within : i < a .count) (inside : i < b .count) (agree : Same-below a b i) where
     apart : (a .request i .task ≡ b .request i .task → ⊥) → Before (a .request i) (b .request i)
     apart differ =
         let k = b .request i .task in
@@ -117,7 +117,7 @@ module _ {table : Table} {runs : Runs} {a b : Requests} (one : Woven table runs 
   counts : a .count ≡ b .count
   counts = woven-count one ∙ sym (woven-count other)
 
-  agree-at : (i : ℕ) → i < b .count → Agree a b i → a .request i ≡ b .request i
+  agree-at : (i : ℕ) → i < b .count → Same-below a b i → a .request i ≡ b .request i
   agree-at i inside agree =
       let within : i < a .count = omega (arith, counts) in
       elim (ℕ-discrete (a .request i .task) (b .request i .task)) [
@@ -127,7 +127,7 @@ module _ {table : Table} {runs : Runs} {a b : Requests} (one : Woven table runs 
             (apart other one i inside within (λ j less. sym (agree j less)) (λ same. differ (sym same))))
       ]
 
-  agree-below : (i : ℕ) → i ≤ b .count → Agree a b i
+  agree-below : (i : ℕ) → i ≤ b .count → Same-below a b i
   agree-below zero within = λ j less. absurd (omega arith)
   agree-below (suc i) within =
       let rest = agree-below i (omega arith) in

@@ -13,10 +13,10 @@ use Rattle.model.specs.Weave.{Runs, Woven, earliest}
 use Rattle.model.proofs.WovenLegal.{same-sorted}
 
 -- two lists that agree below i
-abbrev pub Agree : Requests → Requests → ℕ → Type 0
-Agree a b i = (j : ℕ) → j < i → a .request j ≡ b .request j
+abbrev pub Same-below : Requests → Requests → ℕ → Type 0
+Same-below a b i = (j : ℕ) → j < i → a .request j ≡ b .request j
 
-pub of-task-same : (a b : Requests) (i : ℕ) → Agree a b i → (k : ℕ) → of-task a k i ≡ of-task b k i
+pub of-task-same : (a b : Requests) (i : ℕ) → Same-below a b i → (k : ℕ) → of-task a k i ≡ of-task b k i
 of-task-same a b i agree k =
     sum-cong i (λ j. only (eqb (a .request j .task) k) 1) (λ j. only (eqb (b .request j .task) k) 1)
     (λ j less. ap (λ r. only (eqb (r .task) k) 1) (agree j less))

@@ -36,6 +36,6 @@ module _ (jobs : Jobs) (before : Order) where
     pub on-time : (u k : ℕ) → Late-at u k → ⊥
 
   -- what an answer says
-  abbrev pub Says : Replayed → Type 0
-  Says (missed t i) = Missed t i
-  Says (all-met t) = Met t
+  abbrev pub Replay-says : Replayed → Type 0
+  Replay-says (missed t i) = Missed t i
+  Replay-says (all-met t) = Met t

@@ -24,16 +24,16 @@ pub record On-time (share : ℕ → ℕ) (e d v n : ℕ) : Type 0 where
   pub few : n ≤ d - e
 
 -- "If a value passes D first: late, with that value and its index."
-pub record Late (share : ℕ → ℕ) (e d v n : ℕ) : Type 0 where
+pub record Late-with (share : ℕ → ℕ) (e d v n : ℕ) : Type 0 where
   pub is : v ≡ value share e n
   pub passes : d < v
   pub first : (m : ℕ) → m < n → value share e m ≤ d
   pub rises : Rises-to share e n
 
 -- what a response says of the recurrence
-abbrev pub Says : (ℕ → ℕ) → ℕ → ℕ → Response → Type 0
-Says share e d (on-time v n) = On-time share e d v n
-Says share e d (late v n) = Late share e d v n
+abbrev pub Response-says : (ℕ → ℕ) → ℕ → ℕ → Response → Type 0
+Response-says share e d (on-time v n) = On-time share e d v n
+Response-says share e d (late v n) = Late-with share e d v n
 
 -- "its peak frame (greatest E, lowest number if equal)"
 pub record Is-peak (task : Task) (i : ℕ) : Type 0 where

@@ -6,7 +6,7 @@ use Prim.Native.Nat.{ℕ, suc, _≤_, _<_}
 use Rattle.model.specs.Jobs.{Jobs}
 use Rattle.model.specs.Machine.{Order, left-at}
 use Rattle.model.specs.Tick.{Lowest-late}
-use Rattle.model.specs.Replay.{Replayed, missed, all-met, Late-at, Undone-at, Says}
+use Rattle.model.specs.Replay.{Replayed, missed, all-met, Late-at, Undone-at, Replay-says}
 
 -- the tick that an answer names
 abbrev pub tick-in : Replayed → ℕ
@@ -36,7 +36,7 @@ module _ (jobs : Jobs) (before : Order) {State : Type 0} (Runs : ℕ → State �
   -- where a state stands after n ticks
   pub data Stage (n : ℕ) (b : State) : Type 0 where
     runs : Runs n b → Behind jobs before n → Stage n b
-    stopped : (answer : Replayed) → tick-in answer < n → Stops b answer → Says jobs before answer → Stage n b
+    stopped : (answer : Replayed) → tick-in answer < n → Stops b answer → Replay-says jobs before answer → Stage n b
 
 -- it has stopped by the last tick, with an answer that is right
 pub record Stops-rightly (jobs : Jobs) (before : Order) {State : Type 0} (Stops : State → Replayed → Type 0) (last : ℕ)
@@ -44,4 +44,4 @@ pub record Stops-rightly (jobs : Jobs) (before : Order) {State : Type 0} (Stops 
   pub answer : Replayed
   pub soon : tick-in answer ≤ last
   pub stops : Stops b answer
-  pub says : Says jobs before answer
+  pub says : Replay-says jobs before answer

@@ -11,7 +11,7 @@ use Rattle.overload.specs.Counts.{Totalled}
 abbrev pub place : List ℕ → ℕ → ℕ
 place many k = getD many k 0
 
-pub total-added : {many : List ℕ} {tasks so-far k : ℕ} → Adding (place many) widest tasks so-far k → tasks ≤ 16
+pub many-added : {many : List ℕ} {tasks so-far k : ℕ} → Adding (place many) widest tasks so-far k → tasks ≤ 16
     → tasks ≤ k → Totalled many tasks so-far
-total-added adding few done =
+many-added adding few done =
     record { is = adding-end adding done; at-most = adding-room adding 16 (omega (arith, adding .within)) }

@@ -32,7 +32,7 @@ pub record Counting (task : Task) (start t left i n many : ℕ) : Type 0 where
   pub few : many ≤ n
 
 -- what one turn reads and makes: the record x of frame i, and whether its deadline fits in the time left
-pub record Turn (task : Task) (frames left i n many left′ i′ n′ many′ : ℕ) (x : Record) : Type 0 where
+pub record Counting-turn (task : Task) (frames left i n many left′ i′ n′ many′ : ℕ) (x : Record) : Type 0 where
   pub some : 0 < left
   pub found : Frame-is task i x
   pub round : Frames task frames
@@ -77,7 +77,7 @@ module _ {task : Task} {start t left i n many : ℕ} (so-far : Counting task sta
   counting-less x found turns some = omega (arith, found .p, so-far .proper .moves i (so-far .inside))
 
   module _ (frames : ℕ) (x : Record) {left′ i′ n′ many′ : ℕ}
-      (turn : Turn task frames left i n many left′ i′ n′ many′ x) where
+      (turn : Counting-turn task frames left i n many left′ i′ n′ many′ x) where
     -- the task's own numbers in this turn
     p-is : x .p ≡ task .P (frame task start n)
     p-is = turn .found .p ∙ ap (task .P) (so-far .frame-is)

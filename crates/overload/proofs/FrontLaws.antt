@@ -9,41 +9,41 @@ use Rattle.laws.specs.Search.{place-or}
 use Rattle.model.proofs.OrderLaws.{key-strict}
 use Rattle.model.proofs.PickLaws.{pick-start}
 use Rattle.model.proofs.PickPlace.{place-low, place-turn}
-use Rattle.overload.specs.Lanes.{has-left, comes-before, front, better-of}
+use Rattle.overload.specs.Lanes.{has-more, comes-before, front, better-of}
 use Rattle.overload.specs.declared.lanes.Lanes.{Lanes}
 
 -- the first k of the tasks are tried, and the best of them is known
-pub record Tried (tasks : ℕ) (lanes : Lanes) (best k : ℕ) : Type 0 where
+pub record Front-so-far (tasks : ℕ) (lanes : Lanes) (best k : ℕ) : Type 0 where
   pub within : k ≤ tasks
   pub best-is : best ≡ front k lanes
 
 module _ {tasks : ℕ} {lanes : Lanes} where
-  pub tried-start : Tried tasks lanes 0 0
+  pub front-start : Front-so-far tasks lanes 0 0
   unfolding front
-  tried-start = record { within = omega arith; best-is = ap (place-or 0) (sym (pick-start _ _)) }
+  front-start = record { within = omega arith; best-is = ap (place-or 0) (sym (pick-start _ _)) }
 
-  module _ {best k : ℕ} (tried : Tried tasks lanes best k) where
+  module _ {best k : ℕ} (tried : Front-so-far tasks lanes best k) where
     -- a place of the arrays
-    pub tried-low : tasks ≤ 16 → best < 16
+    pub front-low : tasks ≤ 16 → best < 16
     unfolding front
-    tried-low few =
+    front-low few =
         rw (tried .best-is)
-        (place-low (has-left lanes) (comes-before lanes) k 16 (omega (arith, tried .within)) (omega arith))
+        (place-low (has-more lanes) (comes-before lanes) k 16 (omega (arith, tried .within)) (omega arith))
 
-    pub tried-turn : k < tasks → {r : ℕ} → r ≡ better-of lanes best k → Tried tasks lanes r (k + 1)
+    pub front-turn : k < tasks → {r : ℕ} → r ≡ better-of lanes best k → Front-so-far tasks lanes r (k + 1)
     unfolding front
-    tried-turn more is =
+    front-turn more is =
         rw add-one
         (record {
           within = more;
           best-is =
               is
-              ∙ place-turn (has-left lanes) (comes-before lanes) (key-strict (λ j. getD (lanes .arrival) j 0)) k best
+              ∙ place-turn (has-more lanes) (comes-before lanes) (key-strict (λ j. getD (lanes .arrival) j 0)) k best
               (tried .best-is);
         })
 
-    pub tried-end : tasks ≤ k → best ≡ front tasks lanes
-    tried-end over = tried .best-is ∙ ap (λ n. front n lanes) all
+    pub front-end : tasks ≤ k → best ≡ front tasks lanes
+    front-end over = tried .best-is ∙ ap (λ n. front n lanes) all
       where
         all : k ≡ tasks
         all = omega (arith, tried .within)

@@ -33,13 +33,13 @@ use Rattle.place.proofs.PlaceLaws.{catches-room, wrote-refused, wrote-whole}
 use Rattle.requests.specs.Entry.{entry-size, bytes-of}
 use Rattle.sums.specs.Sized.{ceiling}
 use Rattle.requests.proofs.BytesLaws.{bytes-length, bytes-same}
-use Rattle.overload.specs.Counts.{Asked, many-in, counts}
+use Rattle.overload.specs.Counts.{Asked, many-in, task-counts}
 use Rattle.overload.specs.Lanes.{runs-of, Puts}
 
 pub record Gathered (s : List ℕ) (plan : Plan) (first : List ℕ) (t : ℕ) (many : List ℕ) (n : ℕ) : Type 0 where
   pub asked : Asked s plan first t
   pub bytes : Bytes s
-  pub many-are : many ≡ counts (table-of s) t
+  pub many-are : many ≡ task-counts (table-of s) t
   pub total : n ≡ sum (plan .tasks) (λ k. getD many k 0)
 
 -- from what was asked of the writer and what the parts that it called ensure
@@ -58,7 +58,7 @@ module _ {s : List ℕ} {plan : Plan} {first : List ℕ} {t : ℕ} {many : List 
 
   many-is : (k : ℕ) → k < table-of s .tasks
       → getD many k 0 ≡ requests-by (table-of s .task k) (start (table-of s .task k) t) t
-  unfolding counts
+  unfolding task-counts
   many-is k inside =
       rw (gathered .many-are)
       (tabulate-at 16 (many-in (table-of s) t) k (low k inside) ∙ rw (lt-ltb k (table-of s .tasks) inside))
@@ -119,9 +119,9 @@ module _ {s : List ℕ} {plan : Plan} {first : List ℕ} {t : ℕ} {many : List 
   abbrev list : List ℕ
   list = bytes-of (overload-list (table-of s) t)
 
-  pub list-refused : none ≡ true →
+  pub tested-refused : none ≡ true →
       Wrote buffer place (fitted buffer place list) (written.Refused (record { number = 12; index = 0 })) buffer
-  list-refused is =
+  tested-refused is =
       wrote-refused buffer place list (n * entry-size) (gathered-long (tested .gathered)) (sym (tested .none-is) ∙ is)
 
   module _ {from : List ℕ} (from-are : from ≡ replicate 16 0) where
@@ -136,12 +136,12 @@ module _ {s : List ℕ} {plan : Plan} {first : List ℕ} {t : ℕ} {many : List 
           near = gathered-near all from-are;
         }
 
-    pub list-whole : none ≡ false → (last : List ℕ) →
+    pub tested-whole : none ≡ false → (last : List ℕ) →
         let put = bytes-of (weave (table-of s) (runs-of first many from)) in
         last ≡ put ++ drop (n * entry-size) (midOf place (length buffer - place) buffer) →
         Wrote buffer place (fitted buffer place list) (written.Bytes (n * entry-size))
         (putMid place (length buffer - place) buffer last)
-    list-whole is last last-is =
+    tested-whole is last last-is =
         let all = tested .gathered in
         wrote-whole buffer place list (n * entry-size) (gathered-long all) (sym (tested .none-is) ∙ is) last
         (rw (bytes-same (gathered-list all from-are)) at last-is)

@@ -9,7 +9,7 @@ use Rattle.model.specs.Task.{Task, Table}
 use Rattle.model.specs.Demand.{frame}
 use Rattle.table.specs.Ready.{Frames, Frame-is}
 use Rattle.table.specs.declared.record.Record.{Record}
-use Rattle.overload.specs.Lanes.{moved-on}
+use Rattle.overload.specs.Lanes.{lanes-moved}
 use Rattle.overload.specs.declared.lanes.Lanes.{Lanes}
 
 -- the next frame's number is a byte
@@ -23,8 +23,8 @@ pub moved-is : (table : Table) (lanes : Lanes) (k : ℕ) {frames next p : ℕ} {
       left = set (lanes .left) k (getD (lanes .left) k 0 - 1);
       frame = set (lanes .frame) k next;
       arrival = set (lanes .arrival) k (getD (lanes .arrival) k 0 + p);
-    } ≡ moved-on table lanes k
-unfolding moved-on frame
+    } ≡ lanes-moved table lanes k
+unfolding lanes-moved frame
 moved-is table lanes k frames next is p = rw (next, frames .is, p, is .p)
 
 -- every array has its 16 places
@@ -33,8 +33,8 @@ pub record Full (lanes : Lanes) : Type 0 where
   pub frame : length (lanes .frame) ≡ 16
   pub arrival : length (lanes .arrival) ≡ 16
 
-pub full-on : (table : Table) (k : ℕ) {lanes : Lanes} → Full lanes → Full (moved-on table lanes k)
-unfolding moved-on
+pub full-on : (table : Table) (k : ℕ) {lanes : Lanes} → Full lanes → Full (lanes-moved table lanes k)
+unfolding lanes-moved
 full-on table k full =
     record {
       left = rw length-set (full .left);

@@ -19,7 +19,7 @@ use Rattle.table.proofs.ReadyLaws.{ready-tasks, ready-few}
 use Rattle.place.proofs.TailLaws.{lent-tail, one-more}
 use Rattle.requests.specs.Entry.{entry-size, entry-bytes, bytes-to, bytes-of}
 use Rattle.requests.proofs.BytesLaws.{bytes-length}
-use Rattle.overload.specs.Lanes.{runs-of, Puts, front, Movable, moved-on, next-in, Stand}
+use Rattle.overload.specs.Lanes.{runs-of, Puts, front, Movable, lanes-moved, next-request, Stand}
 use Rattle.overload.specs.declared.lanes.Lanes.{Lanes}
 use Rattle.overload.proofs.MoveLaws.{Full, full-on}
 use Rattle.overload.proofs.StandLaws.{stand-start, stand-frame, stand-arrival, turn-known, turn-left, turn-request, turn-stand}
@@ -114,21 +114,21 @@ module _ {s : List ℕ} {plan : Plan} {runs : Runs} {n : ℕ} {lent out : List �
           }
 
       turn-out : {last : List ℕ}
-          → last ≡ entry-bytes (next-in lanes k) ++ drop entry-size (midOf at (length out - at) out)
+          → last ≡ entry-bytes (next-request lanes k) ++ drop entry-size (midOf at (length out - at) out)
           → putMid at (length out - at) out last
           ≡ bytes-to (weave table runs) (i + 1) ++ drop ((i + 1) * entry-size) lent
       unfolding bytes-to
       turn-out {last = last} last-is =
           let put = bytes-to (weave table runs) i in
           let far : at + entry-size ≡ (i + 1) * entry-size = omega (arith, putting .at-is) in
-          one-more lent out last put (entry-bytes (next-in lanes k)) at entry-size (omega (arith, room))
+          one-more lent out last put (entry-bytes (next-request lanes k)) at entry-size (omega (arith, room))
           (bytes-length (weave table runs) i ∙ sym (putting .at-is))
           (putting .out-is ∙ ap (λ n. put ++ drop n lent) (sym (putting .at-is))) last-is
           ∙ rw (far, add-one i, turn-request (putting .stand) listed front-is)
 
       pub putting-turn : {last : List ℕ} {moved : Lanes}
-          → last ≡ entry-bytes (next-in lanes k) ++ drop entry-size (midOf at (length out - at) out)
-          → moved ≡ moved-on table lanes k
+          → last ≡ entry-bytes (next-request lanes k) ++ drop entry-size (midOf at (length out - at) out)
+          → moved ≡ lanes-moved table lanes k
           → Putting s plan runs n lent (putMid at (length out - at) out last) moved (at + entry-size) (i + 1)
       putting-turn last-is moved-is =
           let fits : (i + 1) * entry-size ≤ length lent = omega (arith, putting .puts .fits) in

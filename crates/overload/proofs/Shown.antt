@@ -14,7 +14,7 @@ use Rattle.model.proofs.WovenLegal.{woven-legal}
 use Rattle.model.proofs.WovenSame.{same-woven}
 use Rattle.model.proofs.OverloadLaws.{overload-asks, overload-some, overload-near}
 use Rattle.requests.specs.Entry.{list-of, bytes-of}
-use Rattle.requests.proofs.BytesLaws.{read-back}
+use Rattle.requests.proofs.BytesLaws.{bytes-read-back}
 use Rattle.requests.proofs.LawfulLaws.{written-lawful}
 use Rattle.overload.specs.Shows.{Shows}
 
@@ -29,7 +29,7 @@ module _ {table : Table} (good : ProperTable table) (t : ℕ) (within : t ≤ ho
 
   back : Same (list-of (bytes-of (overload-list table t))) (overload-list table t)
   unfolding last-arrival
-  back = read-back (overload-list table t) (λ i inside. omega (arith, near i inside))
+  back = bytes-read-back (overload-list table t) (λ i inside. omega (arith, near i inside))
 
   pub list-shows : t < all-demands table t → Shows table t (bytes-of (overload-list table t))
   list-shows over =

@@ -21,7 +21,7 @@ use Rattle.model.specs.Weave.{Runs, earliest, foremost, taken-by, weave}
 use Rattle.model.proofs.CyclicLaws.{frame-none, frame-next, offset-none, offset-next}
 use Rattle.model.proofs.PickSame.{pick-cong}
 use Rattle.model.proofs.WeaveLaws.{task-at, taken-start, taken-here, taken-other, weave-request, foremost-lt, foremost-left}
-use Rattle.overload.specs.Lanes.{runs-of, Puts, front, moved-on, next-in, Stand}
+use Rattle.overload.specs.Lanes.{runs-of, Puts, front, lanes-moved, next-request, Stand}
 use Rattle.overload.specs.declared.lanes.Lanes.{Lanes}
 use Rattle.overload.proofs.MoveLaws.{Full}
 
@@ -83,7 +83,7 @@ module _ {table : Table} {runs : Runs} {lanes : Lanes} {i k : ℕ}
   pub turn-left : taken k < runs .many k
   turn-left = rw turn-task (foremost-left table runs i listed)
 
-  pub turn-request : weave table runs .request i ≡ next-in lanes k
+  pub turn-request : weave table runs .request i ≡ next-request lanes k
   turn-request =
       weave-request table runs i
       ∙ ap (λ (j : ℕ). earliest table runs j (taken j)) (sym turn-task)
@@ -92,19 +92,19 @@ module _ {table : Table} {runs : Runs} {lanes : Lanes} {i k : ℕ}
   -- it is taken
   module _ (full : Full lanes) (low : k < 16) where
     abbrev moved : Lanes
-    moved = moved-on table lanes k
+    moved = lanes-moved table lanes k
 
     one-more : taken-by table runs (suc i) k ≡ taken k + 1
     one-more = taken-here table runs i k (sym turn-task)
 
     left-here : getD (moved .left) k 0 ≡ runs .many k - taken-by table runs (suc i) k
-    unfolding moved-on
+    unfolding lanes-moved
     left-here =
         getD-set-same (lanes .left) k _ 0 (omega (arith, full .left))
         ∙ omega (arith, stand .left-is k turn-known, one-more)
 
-    next-here : next-in moved k ≡ earliest table runs k (taken-by table runs (suc i) k)
-    unfolding moved-on
+    next-here : next-request moved k ≡ earliest table runs k (taken-by table runs (suc i) k)
+    unfolding lanes-moved
     next-here =
         let task = table .task k in
         let start = runs .start k in
@@ -124,12 +124,12 @@ module _ {table : Table} {runs : Runs} {lanes : Lanes} {i k : ℕ}
       same-taken = taken-other table runs i j (λ here. differ (sym here ∙ sym turn-task))
 
       left-other : getD (moved .left) j 0 ≡ runs .many j - taken-by table runs (suc i) j
-      unfolding moved-on
+      unfolding lanes-moved
       left-other =
           getD-set-other (lanes .left) k j _ 0 differ ∙ omega (arith, stand .left-is j inside, same-taken)
 
-      next-other : next-in moved j ≡ earliest table runs j (taken-by table runs (suc i) j)
-      unfolding moved-on
+      next-other : next-request moved j ≡ earliest table runs j (taken-by table runs (suc i) j)
+      unfolding lanes-moved
       next-other =
           rw (
             getD-set-other (lanes .frame) k j _ 0 differ,

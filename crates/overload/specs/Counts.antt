@@ -30,8 +30,8 @@ pub record Counted (task : Task) (s t r : ℕ) : Type 0 where
 abbrev pub many-in : Table → ℕ → ℕ → ℕ
 many-in table t k = cond (ltb k (table .tasks)) (requests-by (table .task k) (start-in table t k) t) 0
 
-unfoldable pub counts : Table → ℕ → List ℕ
-counts table t = tabulate 16 (many-in table t)
+unfoldable pub task-counts : Table → ℕ → List ℕ
+task-counts table t = tabulate 16 (many-in table t)
 
 pub record Totalled (many : List ℕ) (tasks r : ℕ) : Type 0 where
   pub is : r ≡ sum tasks (λ k. getD many k 0)

@@ -36,20 +36,20 @@ pub record Puts (table : Table) (runs : Runs) (n room : ℕ) : Type 0 where
 
 -- ---- where each task stands
 
-abbrev pub has-left : Lanes → ℕ → Bool
-has-left lanes k = ltb 0 (getD (lanes .left) k 0)
+abbrev pub has-more : Lanes → ℕ → Bool
+has-more lanes k = ltb 0 (getD (lanes .left) k 0)
 
 abbrev pub comes-before : Lanes → Order
 comes-before lanes j k = ltb (getD (lanes .arrival) j 0) (getD (lanes .arrival) k 0)
 
 -- of the tasks with requests left, the one whose next arrives first; the lower at equal arrivals
 unfoldable pub front : ℕ → Lanes → ℕ
-front tasks lanes = place-or 0 (pick (has-left lanes) (comes-before lanes) tasks)
+front tasks lanes = place-or 0 (pick (has-more lanes) (comes-before lanes) tasks)
 
 -- of task k and the best below it, the one that comes first
 abbrev pub better-of : Lanes → ℕ → ℕ → ℕ
 better-of lanes best k =
-    cond (has-left lanes k && (not (has-left lanes best) || comes-before lanes k best)) k best
+    cond (has-more lanes k && (not (has-more lanes best) || comes-before lanes k best)) k best
 
 -- what is asked before a request of task k is taken
 pub record Movable (s : List ℕ) (plan : Plan) (lanes : Lanes) (k : ℕ) : Type 0 where
@@ -60,8 +60,8 @@ pub record Movable (s : List ℕ) (plan : Plan) (lanes : Lanes) (k : ℕ) : Type
   pub near : getD (lanes .arrival) k 0 ≤ ceiling
 
 -- one request of task k is taken
-unfoldable pub moved-on : Table → Lanes → ℕ → Lanes
-moved-on table lanes k =
+unfoldable pub lanes-moved : Table → Lanes → ℕ → Lanes
+lanes-moved table lanes k =
     let i = getD (lanes .frame) k 0 in
     record {
       left = set (lanes .left) k (getD (lanes .left) k 0 - 1);
@@ -70,10 +70,10 @@ moved-on table lanes k =
     }
 
 -- the next request of task k
-abbrev pub next-in : Lanes → ℕ → Request
-next-in lanes k = record { task = k; frame = getD (lanes .frame) k 0; arrival = getD (lanes .arrival) k 0 }
+abbrev pub next-request : Lanes → ℕ → Request
+next-request lanes k = record { task = k; frame = getD (lanes .frame) k 0; arrival = getD (lanes .arrival) k 0 }
 
 -- the lanes stand where `taken k` requests of each task k are taken
 pub record Stand (table : Table) (runs : Runs) (taken : ℕ → ℕ) (lanes : Lanes) : Type 0 where
   pub left-is : (k : ℕ) → k < table .tasks → getD (lanes .left) k 0 ≡ runs .many k - taken k
-  pub next-is : (k : ℕ) → k < table .tasks → next-in lanes k ≡ earliest table runs k (taken k)
+  pub next-is : (k : ℕ) → k < table .tasks → next-request lanes k ≡ earliest table runs k (taken k)

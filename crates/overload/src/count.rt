@@ -7,9 +7,9 @@ ghost use Rattle.model.specs.Request.{Has-frame};
 ghost use Rattle.table.specs.Ready.{Ready};
 ghost use Rattle.table.specs.TableOf.{table-of};
 ghost use Rattle.sums.specs.Sized.{ceiling};
-ghost use Rattle.overload.specs.Counts.{Asked, Counted, many-in, counts};
+ghost use Rattle.overload.specs.Counts.{Asked, Counted, many-in, task-counts};
 
-fn choose(first: bool, a: u32, b: u32) -> u32
+fn choose_many(first: bool, a: u32, b: u32) -> u32
     ensures { λ r. ⌜ r ≡ cond first a b ⌝ }
 {
     if first { a } else { b }
@@ -28,7 +28,7 @@ fn count_by(s: &[u8], plan: Plan, k: usize, start: usize, t: u64) -> u32
     while 0 < left {
         let x = table::frame::frame_at(s, plan, k, i);
         n += 1;
-        many = choose(x.d as u64 <= left, n, many);
+        many = choose_many(x.d as u64 <= left, n, many);
         left = sums::cyclic::less(left, x.p);
         i = sums::cyclic::following(frames, i);
     }
@@ -49,7 +49,7 @@ fn many_of(s: &[u8], plan: Plan, starts: [u8; 16], k: usize, t: u64) -> u32
 // The requests of every task, where `starts` are the start frames at t.
 pub fn count_all(s: &[u8], plan: Plan, starts: [u8; 16], t: u64) -> [u32; 16]
     requires { ⌜ Asked (now s) plan starts t ⌝ }
-    ensures { λ r. ⌜ r ≡ counts (table-of (now (s .entry))) t ⌝ }
+    ensures { λ r. ⌜ r ≡ task-counts (table-of (now (s .entry))) t ⌝ }
 {
     let mut many = [0u32; 16];
     let mut k: usize = 0;

@@ -3,7 +3,7 @@ use table::plan::Plan;
 ghost use mathlib.Core.Path.{_≡_};
 ghost use Prim.Native.Nat.{_≤_, _<_};
 ghost use Rattle.table.specs.TableOf.{table-of};
-ghost use Rattle.overload.specs.Lanes.{front, better-of, Movable, moved-on};
+ghost use Rattle.overload.specs.Lanes.{front, better-of, Movable, lanes-moved};
 
 // Of each task, how many of its requests are left, and the frame and the arrival of the next.
 pub struct Lanes {
@@ -20,14 +20,14 @@ pub fn front_of(tasks: usize, lanes: Lanes) -> usize
     let mut best: usize = 0;
     let mut k: usize = 0;
     while k < tasks {
-        best = better(lanes, best, k);
+        best = better_of(lanes, best, k);
         k += 1;
     }
     best
 }
 
 // Of task k and the best below it, the one that comes first.
-fn better(lanes: Lanes, best: usize, k: usize) -> usize
+fn better_of(lanes: Lanes, best: usize, k: usize) -> usize
     requires { ⌜ (best < 16) × (k < 16) ⌝ }
     ensures { λ r. ⌜ r ≡ better-of lanes best k ⌝ }
 {
@@ -43,7 +43,7 @@ fn better(lanes: Lanes, best: usize, k: usize) -> usize
 // One request of task k is taken.
 pub fn move_on(s: &[u8], plan: Plan, lanes: Lanes, k: usize) -> Lanes
     requires { ⌜ Movable (now s) plan lanes k ⌝ }
-    ensures { λ r. ⌜ r ≡ moved-on (table-of (now (s .entry))) lanes k ⌝ }
+    ensures { λ r. ⌜ r ≡ lanes-moved (table-of (now (s .entry))) lanes k ⌝ }
 {
     let i = lanes.frame[k] as usize;
     let frames = table::frame::count_frames(s, plan, k);
@@ -53,7 +53,7 @@ pub fn move_on(s: &[u8], plan: Plan, lanes: Lanes, k: usize) -> Lanes
     let mut frame = lanes.frame;
     frame[k] = sums::cyclic::following(frames, i) as u8;
     let mut arrival = lanes.arrival;
-    arrival[k] = arrival[k] + requests::entry::wide(x.p);
+    arrival[k] = arrival[k] + requests::entry::wide_half(x.p);
     Lanes {
         left,
         frame,

@@ -10,12 +10,12 @@ ghost use Rattle.model.specs.Weave.{weave};
 ghost use Rattle.table.specs.Ready.{Ready};
 ghost use Rattle.table.specs.TableOf.{table-of};
 ghost use Rattle.requests.specs.Entry.{entry-size, entry-bytes, bytes-of};
-ghost use Rattle.overload.specs.Lanes.{next-in, runs-of, Puts};
+ghost use Rattle.overload.specs.Lanes.{next-request, runs-of, Puts};
 
 // The next request of task k, at the front of what is lent.
 fn put_next(lanes: Lanes, k: usize, out: &mut [u8])
     requires { ⌜ (k < 16) × (entry-size ≤ length (now out)) ⌝ }
-    ensures { λ _. ⌜ now (out .exit) ≡ entry-bytes (next-in lanes k) ++ drop entry-size (now (out .entry)) ⌝ }
+    ensures { λ _. ⌜ now (out .exit) ≡ entry-bytes (next-request lanes k) ++ drop entry-size (now (out .entry)) ⌝ }
 {
     let a = lanes.arrival[k];
     out[0] = k as u8;

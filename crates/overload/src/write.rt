@@ -12,7 +12,7 @@ ghost use Rattle.place.specs.Place.{fitted, Wrote};
 ghost use Rattle.overload.specs.Counts.{Asked, Totalled};
 
 // 32 bits as 64, with the bound that a sum of sixteen asks.
-fn wide(x: u32) -> usize
+fn wide_word(x: u32) -> usize
     ensures { λ r. ⌜ (r ≡ x) × (r ≤ widest) ⌝ }
 {
     x as usize
@@ -26,7 +26,7 @@ fn total_of(tasks: usize, many: [u32; 16]) -> usize
     let mut sum: usize = 0;
     let mut k: usize = 0;
     while k < tasks {
-        sum += wide(many[k]);
+        sum += wide_word(many[k]);
         k += 1;
     }
     sum

@@ -13,7 +13,7 @@ use Rattle.model.specs.Replay.{Replayed, missed}
 use Rattle.model.specs.Answer.{answered}
 use Rattle.table.specs.Bytes.{Bytes}
 use Rattle.table.specs.TableOf.{table-of}
-use Rattle.table.specs.TableRefusals as Table
+use Rattle.table.specs.TableRefusals.{Table-refused}
 use Rattle.requests.specs.Entry.{list-of}
 use Rattle.requests.specs.Accepted.{Accepted}
 use Rattle.desk.specs.declared.answers.Verdict.{Verdict}
@@ -32,7 +32,7 @@ use Rattle.promise.proofs.PassedLaws.{passed}
 use Rattle.promise.proofs.OverloadedLaws.{overloaded-shown}
 use Rattle.promise.proofs.WritingExact.{over-judged}
 use Rattle.promise.proofs.WrittenBack.{wrote-list, wrote-none}
-use Rattle.promise.proofs.FlatSays.{is-overload, is-fit, is-open, is-refusal, four, not-missed, is-missed}
+use Rattle.promise.proofs.FlatSays.{is-overload, is-fit, is-open, is-refusal, verdict-low, not-missed, is-missed}
 
 module _ (s : Slice) (bytes : Bytes (now s)) where
   -- a list that is replayed was accepted
@@ -109,9 +109,9 @@ module _ (s : Slice) (bytes : Bytes (now s)) where
         passed = λ r j two. is-fit (now s) bytes said refl (number-is 2 r j two);
         undecided = λ r j three. is-open (now s) bytes said refl (number-is 3 r j three);
         refuses = λ r j none.
-            judged-by (λ q. Table.Refused-with (now s) (q .refusal .number) (q .refusal .index)) r j
+            judged-by (λ q. Table-refused (now s) (q .refusal .number) (q .refusal .index)) r j
             (is-refusal (now s) bytes said refl (number-is 0 r j none));
-        no-other = λ r j. judged-by (λ q. q .verdict ≤ 3) r j (four said);
+        no-other = λ r j. judged-by (λ q. q .verdict ≤ 3) r j (verdict-low said);
         wrote = wrote;
         left-alone = λ buffer place r after (κ, ℓ, (x, wrote, left)) some.
             left ∙ wrote-none (now s) bytes (now buffer) place wrote some;

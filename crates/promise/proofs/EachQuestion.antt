@@ -17,8 +17,8 @@ use Rattle.promise.specs.EveryQuestion.{One-answer}
 use Rattle.promise.proofs.OrdersRight.{time-right, task-right, frame-right, size-right, writing-right}
 use Rattle.promise.proofs.EveryNumbered.{numbers-one}
 use Rattle.promise.proofs.FormsKept.{shape-kept, amount-kept, margin-kept, window-kept, verdict-kept, response-kept, size-kept, written-kept, listed-kept, loading-kept, ending-kept}
-use Rattle.promise.proofs.EveryExact.{Told, by-order, by-list}
-use Rattle.promise.proofs.SameLaws as same
+use Rattle.promise.proofs.EveryExact.{Told, told-order, told-list}
+use Rattle.promise.proofs.SameLaws.{number-test, int-test, response-test, unnamed}
 use Rattle.promise.proofs.QuickLaws.{Quick, as-said, verdict-quick, size-quick, overload-quick, replay-quick}
 use Rattle.promise.proofs.OneAnswerLaws.{one-of}
 
@@ -26,35 +26,35 @@ module _ (s : List ℕ) (bytes : Bytes s) where
   pub told : (q : Question) → Told (row s q .Given) (row s q .said) (row s q .ask (table-of s)) (row s q .form)
   unfolding read-asked demand-asked work-asked margin-asked window-asked verdict-asked response-asked size-asked
       overload-asked list-asked load-asked replay-asked numbers-one
-  told read = by-order s shape-kept table-only (row s read .ask) (λ well. tt) refl
+  told read = told-order s shape-kept table-only (row s read .ask) (λ well. tt) refl
   told (demand k t) =
-      by-order s amount-kept (task-order k t) (row s (demand k t) .ask) (λ well. task-right s k t) refl
-  told (work k w) = by-order s amount-kept (task-order k w) (row s (work k w) .ask) (λ well. task-right s k w) refl
-  told (margin t) = by-order s margin-kept (time-order t) (row s (margin t) .ask) (λ well. time-right s t) refl
-  told window = by-order s window-kept table-only (row s window .ask) (λ well. tt) refl
-  told verdict = by-order s verdict-kept table-only (row s verdict .ask) (λ well. tt) refl
+      told-order s amount-kept (task-order k t) (row s (demand k t) .ask) (λ well. task-right s k t) refl
+  told (work k w) = told-order s amount-kept (task-order k w) (row s (work k w) .ask) (λ well. task-right s k w) refl
+  told (margin t) = told-order s margin-kept (time-order t) (row s (margin t) .ask) (λ well. time-right s t) refl
+  told window = told-order s window-kept table-only (row s window .ask) (λ well. tt) refl
+  told verdict = told-order s verdict-kept table-only (row s verdict .ask) (λ well. tt) refl
   told (response k i) =
-      by-order s response-kept (frame-order k i) (row s (response k i) .ask) (λ well. frame-right s k i) refl
-  told overload-size = by-order s size-kept size-order (row s overload-size .ask) (size-right s bytes) refl
+      told-order s response-kept (frame-order k i) (row s (response k i) .ask) (λ well. frame-right s k i) refl
+  told overload-size = told-order s size-kept size-order (row s overload-size .ask) (size-right s bytes) refl
   told (overload buffer place) =
-      by-order s written-kept (writing-order buffer place) list-in (λ well. writing-right s bytes well buffer place)
+      told-order s written-kept (writing-order buffer place) list-in (λ well. writing-right s bytes well buffer place)
       refl
-  told (list l) = by-list s listed-kept l counts
-  told (load l) = by-list s loading-kept l loads
-  told (replay l) = by-list s ending-kept l replays
+  told (list l) = told-list s listed-kept l counts
+  told (load l) = told-list s loading-kept l loads
+  told (replay l) = told-list s ending-kept l replays
 
 unfoldable pub quick : (s : List ℕ) (q : Question) → Quick s (row s q)
-quick s read = as-said s (row s read) same.unnamed refl
-quick s (demand k t) = as-said s (row s (demand k t)) same.numbers refl
-quick s (work k w) = as-said s (row s (work k w)) same.numbers refl
-quick s (margin t) = as-said s (row s (margin t)) same.ints refl
-quick s window = as-said s (row s window) same.unnamed refl
+quick s read = as-said s (row s read) unnamed refl
+quick s (demand k t) = as-said s (row s (demand k t)) number-test refl
+quick s (work k w) = as-said s (row s (work k w)) number-test refl
+quick s (margin t) = as-said s (row s (margin t)) int-test refl
+quick s window = as-said s (row s window) unnamed refl
 quick s verdict = verdict-quick s
-quick s (response k i) = as-said s (row s (response k i)) same.responses refl
+quick s (response k i) = as-said s (row s (response k i)) response-test refl
 quick s overload-size = size-quick s
 quick s (overload buffer place) = overload-quick s buffer place
-quick s (list l) = as-said s (row s (list l)) same.numbers refl
-quick s (load l) = as-said s (row s (load l)) same.unnamed refl
+quick s (list l) = as-said s (row s (list l)) number-test refl
+quick s (load l) = as-said s (row s (load l)) unnamed refl
 quick s (replay l) = replay-quick s l
 
 module _ (κ ℓ : Lft) (s other : Slice) where

@@ -9,7 +9,7 @@ use Rattle.table.specs.Bytes.{Bytes}
 use Rattle.promise.specs.Asked.{Question, row}
 use Rattle.promise.specs.RefusalCases.{Numbers-one}
 use Rattle.promise.specs.EveryQuestion.{Every-question}
-use Rattle.promise.proofs.FormsKept.{kept-back}
+use Rattle.promise.proofs.FormsKept.{read-back-laid}
 use Rattle.promise.proofs.EachQuestion.{told}
 
 pub every-question : (s : List ℕ) → Bytes s → (q : Question) → Every-question s q
@@ -21,5 +21,5 @@ every-question s bytes q =
       exact = its .exact;
       gives = its .gives;
       numbered = one;
-      kept = kept-back (row s q .form) (its .keeps) (row s q .said) one;
+      kept = read-back-laid (row s q .form) (its .keeps) (row s q .said) one;
     }

@@ -12,10 +12,10 @@ use borrow.Author.Tests.{ltb-true}
 use Rattle.laws.specs.Ladder.{all-numbers}
 use Rattle.laws.proofs.Every.{and-true-left, and-true-right}
 use Rattle.laws.proofs.LadderLaws.{breaks-number}
-use Rattle.table.specs.WellFormed as Tables
-use Rattle.table.specs.TableRefusals as Table
-use Rattle.requests.specs.Accepted as Lists
-use Rattle.desk.specs.Orders.{Order}
+use Rattle.table.specs.WellFormed.{table-rules}
+use Rattle.table.specs.TableRefusals.{Table-refused}
+use Rattle.requests.specs.Accepted.{list-rules}
+use Rattle.desk.specs.Orders.{Test-order}
 use Rattle.promise.specs.Given.{Given, List-given}
 use Rattle.promise.specs.RefusalCases.{last-refusal, Numbers-one}
 
@@ -32,11 +32,11 @@ is-one number is =
     }
 
 module _ (s : List ℕ) where
-  table-numbered : (number index : ℕ) → Table.Refused-with s number index → Numbers-one number
+  table-numbered : (number index : ℕ) → Table-refused s number index → Numbers-one number
   unfolding numbers-one
   table-numbered number index (inl long) = let is = long .number-is in record { from = omega arith; to = omega arith }
   table-numbered number index (inr bad) =
-      is-one number (breaks-number (s, index) numbers-one Tables.rules refl number 0 (bad .breaks))
+      is-one number (breaks-number (s, index) numbers-one table-rules refl number 0 (bad .breaks))
 
   pub list-numbered : (l : List ℕ) (number index : ℕ) → List-given s l number index → Numbers-one number
   unfolding numbers-one
@@ -45,10 +45,10 @@ module _ (s : List ℕ) where
       elim (bad .list-bad) [
         | inl long ↦ let is = long .number-is in record { from = omega arith; to = omega arith }
         | inr broken ↦
-            is-one number (breaks-number (l, index) numbers-one (Lists.rules _ _) refl number 0 (broken .breaks))
+            is-one number (breaks-number (l, index) numbers-one (list-rules _ _) refl number 0 (broken .breaks))
       ]
 
-  pub order-numbered : (order : Order) → all-numbers numbers-one order ≡ true → (number index : ℕ)
+  pub order-numbered : (order : Test-order) → all-numbers numbers-one order ≡ true → (number index : ℕ)
       → Given s order number index → Numbers-one number
   order-numbered order all number index (inl bad) = table-numbered number index bad
   order-numbered order all number index (inr own) =

@@ -11,7 +11,7 @@ use Rattle.desk.specs.Questions.{verdict-asked}
 use Rattle.desk.specs.Flat.{none, refusal}
 use Rattle.desk.specs.FlatVerdict.{flat-verdict}
 use Rattle.promise.specs.Tables.{each-2, each-32769, longest}
-use Rattle.promise.proofs.LimitExample.{over-judged}
+use Rattle.promise.proofs.LimitExample.{limit-judged}
 use Rattle.promise.proofs.LongestExample.{longest-judged}
 use Rattle.promise.proofs.UndecidedExample.{each-2-judged}
 
@@ -25,7 +25,7 @@ flat-longest = ap flat-verdict longest-judged
 pub flat-last : flat-verdict (verdict-asked each-32769)
     ≡ record { refusal = none; verdict = 1; t = 65536; margin = negsuc 1; window = 0; starts = replicate 16 0 }
 unfolding flat-verdict
-flat-last = ap flat-verdict over-judged
+flat-last = ap flat-verdict limit-judged
 
 -- (2,65535,1)
 pub flat-two : flat-verdict (verdict-asked each-2)

@@ -13,7 +13,7 @@ use Rattle.model.specs.Replay.{Replayed, missed, all-met}
 use Rattle.model.specs.Answer.{Answer, answered, refused}
 use Rattle.table.specs.Bytes.{Bytes}
 use Rattle.table.specs.TableOf.{table-of}
-use Rattle.table.specs.TableRefusals as Table
+use Rattle.table.specs.TableRefusals.{Table-refused}
 use Rattle.desk.specs.declared.answers.Verdict.{Verdict}
 use Rattle.desk.specs.Questions.{verdict-asked}
 use Rattle.desk.specs.FlatVerdict.{flat-verdict}
@@ -53,7 +53,7 @@ module _ (s : List ℕ) (bytes : Bytes s) where
   is-open (refused number index) is three = absurd (omega arith)
 
   pub is-refusal : (said : Answer Rule.Verdict) → verdict-asked s ≡ said → flat-verdict said .verdict ≡ 0
-      → let no = flat-verdict said .refusal in Table.Refused-with s (no .number) (no .index)
+      → let no = flat-verdict said .refusal in Table-refused s (no .number) (no .index)
   unfolding flat-verdict
   is-refusal (answered (Rule.overloaded t m starts)) is none = absurd (omega arith)
   is-refusal (answered (Rule.fits w m t)) is none = absurd (omega arith)
@@ -64,12 +64,12 @@ module _ (s : List ℕ) (bytes : Bytes s) where
         | inr own ↦ absurd (own .breaks)
       ]
 
-pub four : (said : Answer Rule.Verdict) → flat-verdict said .verdict ≤ 3
+pub verdict-low : (said : Answer Rule.Verdict) → flat-verdict said .verdict ≤ 3
 unfolding flat-verdict
-four (answered (Rule.overloaded t m starts)) = omega arith
-four (answered (Rule.fits w m t)) = omega arith
-four (answered Rule.undecided) = omega arith
-four (refused number index) = omega arith
+verdict-low (answered (Rule.overloaded t m starts)) = omega arith
+verdict-low (answered (Rule.fits w m t)) = omega arith
+verdict-low (answered Rule.undecided) = omega arith
+verdict-low (refused number index) = omega arith
 
 -- ---- a replay by its fields
 

@@ -18,37 +18,37 @@ use Rattle.promise.specs.RefusalCases.{Numbers-one}
 use Rattle.promise.proofs.StepLaws.{state-kept}
 
 -- of a form: an answer is read back from what its struct holds, a refusal from the refusal in front
-pub record Kept {A : Type 0} (form : Form A) : Type 0 where
+pub record Form-kept {A : Type 0} (form : Form A) : Type 0 where
   pub back : (x : A) → read-back form (form .lay (answered x)) ≡ answered (form .look x)
   pub front : (number index : ℕ) → form .refusal-in (form .lay (refused number index)) ≡ refusal number index
 
-pub kept-back : {A : Type 0} (form : Form A) → Kept form → (a : Answer A)
+pub read-back-laid : {A : Type 0} (form : Form A) → Form-kept form → (a : Answer A)
     → ((number index : ℕ) → a ≡ refused number index → Numbers-one number)
     → read-back form (form .lay a) ≡ seen (form .look) a
-kept-back form kept (answered x) one = kept .back x
-kept-back form kept (refused number index) one =
+read-back-laid form kept (answered x) one = kept .back x
+read-back-laid form kept (refused number index) one =
     let from = one number index refl .from in
     rw (kept .front number index, ne-eqb number 0 (λ is. omega arith))
 
 -- ---- one for each kind of answer
 
-pub shape-kept : Kept shape-form
+pub shape-kept : Form-kept shape-form
 unfolding flat-shape
 shape-kept = record { back = λ x. refl; front = λ number index. refl }
 
-pub amount-kept : Kept amount-form
+pub amount-kept : Form-kept amount-form
 unfolding flat-amount
 amount-kept = record { back = λ x. refl; front = λ number index. refl }
 
-pub margin-kept : Kept margin-form
+pub margin-kept : Form-kept margin-form
 unfolding flat-margin
 margin-kept = record { back = λ x. refl; front = λ number index. refl }
 
-pub window-kept : Kept window-form
+pub window-kept : Form-kept window-form
 unfolding flat-window
 window-kept = record { back = λ x. elim x [ at w ↦ refl | nowhere ↦ refl ]; front = λ number index. refl }
 
-pub verdict-kept : Kept verdict-form
+pub verdict-kept : Form-kept verdict-form
 unfolding flat-verdict
 verdict-kept =
     record {
@@ -56,7 +56,7 @@ verdict-kept =
       front = λ number index. refl;
     }
 
-pub response-kept : Kept response-form
+pub response-kept : Form-kept response-form
 unfolding flat-response
 response-kept =
     record {
@@ -64,19 +64,19 @@ response-kept =
       front = λ number index. refl;
     }
 
-pub size-kept : Kept size-form
+pub size-kept : Form-kept size-form
 unfolding flat-written
 size-kept = record { back = λ x. refl; front = λ number index. refl }
 
-pub written-kept : Kept written-form
+pub written-kept : Form-kept written-form
 unfolding flat-written
 written-kept = record { back = λ x. refl; front = λ number index. refl }
 
-pub listed-kept : Kept listed-form
+pub listed-kept : Form-kept listed-form
 unfolding flat-listed
 listed-kept = record { back = λ x. refl; front = λ number index. refl }
 
-pub loading-kept : Kept loading-form
+pub loading-kept : Form-kept loading-form
 unfolding flat-loaded
 loading-kept =
     record {
@@ -84,7 +84,7 @@ loading-kept =
       front = λ number index. refl;
     }
 
-pub ending-kept : Kept ending-form
+pub ending-kept : Form-kept ending-form
 unfolding flat-ending
 ending-kept =
     record {

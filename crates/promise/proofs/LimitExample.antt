@@ -41,5 +41,5 @@ over-means =
       past = λ k few past. getD-replicate {A = ℕ} 16 k 0 0 few;
     }
 
-pub over-judged : verdict-asked each-32769 ≡ answered (overloaded 65536 (negsuc 1) (replicate 16 0))
-over-judged = lone-judged each-32769-reads (overloaded 65536 (negsuc 1) (replicate 16 0)) over-means
+pub limit-judged : verdict-asked each-32769 ≡ answered (overloaded 65536 (negsuc 1) (replicate 16 0))
+limit-judged = lone-judged each-32769-reads (overloaded 65536 (negsuc 1) (replicate 16 0)) over-means

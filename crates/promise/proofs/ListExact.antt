@@ -9,7 +9,7 @@ use Rattle.model.specs.Task.{Table}
 use Rattle.model.specs.Request.{Requests}
 use Rattle.model.specs.Jobs.{jobs-of}
 use Rattle.model.specs.Machine.{sooner}
-use Rattle.model.specs.Replay.{Replayed, Says}
+use Rattle.model.specs.Replay.{Replayed, Replay-says}
 use Rattle.model.specs.Answer.{Answer, answered, refused}
 use Rattle.table.specs.Bytes.{Bytes}
 use Rattle.table.specs.TableOf.{table-of}
@@ -81,7 +81,7 @@ module _ (s : List ℕ) (bytes : Bytes s) (list : List ℕ) where
 
   -- a replay that is answered says of the machine what document 01 says
   pub replay-means : (r : Replayed) → replay-asked s list ≡ answered r
-      → Says (jobs-of (table-of s) (list-of list)) (sooner (jobs-of (table-of s) (list-of list))) r
+      → Replay-says (jobs-of (table-of s) (list-of list)) (sooner (jobs-of (table-of s) (list-of list))) r
   unfolding replay-asked end-of
   replay-means r is =
       let good = answered-good replays s list is in

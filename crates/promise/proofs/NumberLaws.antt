@@ -12,7 +12,7 @@ use Rattle.model.specs.VerdictMeaning.{Window-says}
 use Rattle.model.specs.Request.{Has-frame}
 use Rattle.model.specs.Jobs.{jobs-of}
 use Rattle.model.specs.Response.{Response, higher-share, response}
-use Rattle.model.specs.ResponseMeaning as Recurrence
+use Rattle.model.specs.ResponseMeaning.{Response-says}
 use Rattle.model.specs.Answer.{answered}
 use Rattle.model.proofs.AllLaws.{margin-zero}
 use Rattle.model.proofs.HigherLaws.{response-right, response-only}
@@ -74,12 +74,12 @@ module _ (s : List ℕ) (well : WellFormed s) where
 
   -- whichever is answered is the response of the recurrence
   response-told : (k i : ℕ) (r : Response) → response-asked s k i ≡ answered r
-      → Recurrence.Says (higher-share (table-of s) k) (table-of s .task k .E i) (table-of s .task k .D i) r
+      → Response-says (higher-share (table-of s) k) (table-of s .task k .E i) (table-of s .task k .D i) r
   unfolding response-asked
   response-told k i r is =
       let (good, same, keeps) =
       order-kept s (frame-order k i) (λ table. response table k i) (λ good. frame-right s k i) is in
-      subst (Recurrence.Says (higher-share (table-of s) k) (table-of s .task k .E i) (table-of s .task k .D i))
+      subst (Response-says (higher-share (table-of s) k) (table-of s .task k .E i) (table-of s .task k .D i))
       (sym same) (response-right (table-of s) k i)
 
   window-told : (w : Found) → window-asked s ≡ answered w → Window-says horizon (table-of s) w

@@ -11,23 +11,24 @@ use Rattle.model.specs.Answer.{Answer, answered, refused}
 use Rattle.model.specs.Task.{Table}
 use Rattle.table.specs.TableOf.{table-of}
 use Rattle.table.specs.WellFormed.{WellFormed}
-use Rattle.desk.specs.Orders.{Order}
-use Rattle.desk.specs.Questions.{asked}
+use Rattle.desk.specs.Orders.{Test-order}
+use Rattle.desk.specs.Questions.{on-order}
 use Rattle.promise.specs.Given.{Given, Exactly}
 use Rattle.promise.proofs.TableLaws.{table-refused, table-asked, table-told}
 use Rattle.promise.proofs.ExactLaws.{exactly, Given-only}
 
-module _ {A : Type 0} (s : List ℕ) (order : Order) (ask : Table → A) (right : WellFormed s → Caught order s s) where
+module _ {A : Type 0} (s : List ℕ) (order : Test-order) (ask : Table → A)
+    (right : WellFormed s → Caught order s s) where
   by-order : Table → Answer A
   by-order table = climb order refused s (answered (ask table))
 
   -- from the bytes to the answer
-  pub order-answered : WellFormed s → Keeps order s → asked s order ask ≡ answered (ask (table-of s))
+  pub order-answered : WellFormed s → Keeps order s → on-order s order ask ≡ answered (ask (table-of s))
   unfolding by-order
   order-answered well keeps =
       table-asked s by-order well ∙ climb-kept refused s s (answered (ask (table-of s))) order (right well) keeps
 
-  refuses : (number index : ℕ) → Given s order number index → asked s order ask ≡ refused number index
+  refuses : (number index : ℕ) → Given s order number index → on-order s order ask ≡ refused number index
   unfolding by-order
   refuses number index (inl bad) = table-refused s by-order bad
   refuses number index (inr own) =
@@ -36,7 +37,7 @@ module _ {A : Type 0} (s : List ℕ) (order : Order) (ask : Table → A) (right 
       (own .breaks)
 
   -- and back: of an answered question the bytes are a table that keeps the order
-  pub order-kept : {value : A} → asked s order ask ≡ answered value
+  pub order-kept : {value : A} → on-order s order ask ≡ answered value
       → WellFormed s × (value ≡ ask (table-of s)) × Keeps order s
   unfolding by-order
   order-kept {value} =
@@ -56,7 +57,7 @@ module _ {A : Type 0} (s : List ℕ) (order : Order) (ask : Table → A) (right 
                 let apart : _≡_ {A = ℕ} 0 1 = cc in absurd (omega arith)
           ]
 
-  told : Given-only (Given s order) (asked s order ask)
+  told : Given-only (Given s order) (on-order s order ask)
   unfolding by-order
   told = table-told s by-order (Given-only (Given s order)) (λ number index bad. inl bad) own
     where
@@ -72,5 +73,5 @@ module _ {A : Type 0} (s : List ℕ) (order : Order) (ask : Table → A) (right 
                 (inr (record { table-good = well; breaks = breaks }))
           ]
 
-  pub order-exact : Exactly (Given s order) (asked s order ask)
+  pub order-exact : Exactly (Given s order) (on-order s order ask)
   order-exact = exactly (Given-only (Given s order)) refuses told

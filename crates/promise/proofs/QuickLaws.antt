@@ -22,7 +22,7 @@ use Rattle.desk.specs.Questions.{on-table, verdict-asked, size-asked, overload-
 use Rattle.desk.specs.ListQuestions.{on-list, replay-asked}
 use Rattle.promise.specs.Asked as Ask
 use Rattle.promise.specs.Asked.{Row, row}
-use Rattle.promise.proofs.SameLaws.{Test, numbers, lists, verdicts, replays}
+use Rattle.promise.proofs.SameLaws.{Test, number-test, list-test, verdict-test, replay-test}
 use Rattle.promise.proofs.TableLaws.{table-refused, table-asked, table-told}
 
 pub record Quick (s : List ℕ) (r : Row) : Type 0 where
@@ -85,7 +85,7 @@ module _ (s : List ℕ) where
       record {
         said = walked (λ table v. answered v);
         leaves = λ said. [];
-        test = verdicts;
+        test = verdict-test;
         said-is = verdict-walked;
         leaves-is = refl;
       }
@@ -95,7 +95,7 @@ module _ (s : List ℕ) where
       record {
         said = walked sizes;
         leaves = λ said. [];
-        test = numbers;
+        test = number-test;
         said-is = size-walked;
         leaves-is = refl;
       }
@@ -105,7 +105,7 @@ module _ (s : List ℕ) where
       record {
         said = walked (writes buffer place);
         leaves = buffer-after buffer place;
-        test = lists;
+        test = list-test;
         said-is = overload-walked buffer place;
         leaves-is = refl;
       }
@@ -125,7 +125,7 @@ replay-quick s list =
     record {
       said = on-list s list stopping;
       leaves = λ said. [];
-      test = replays;
+      test = replay-test;
       said-is = λ bytes. replay-stopping s list;
       leaves-is = refl;
     }

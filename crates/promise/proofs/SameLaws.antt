@@ -126,23 +126,23 @@ pub record Test (A : Type 0) : Type 0 where
   pub same : A → A → Bool
   pub is : (a b : A) → T (same a b) → a ≡ b
 
-abbrev pub numbers : Test ℕ
-numbers = record { same = eqb; is = eqb→eq }
+abbrev pub number-test : Test ℕ
+number-test = record { same = eqb; is = eqb→eq }
 
-abbrev pub ints : Test ℤ
-ints = record { same = same-int; is = same-int-is }
+abbrev pub int-test : Test ℤ
+int-test = record { same = same-int; is = same-int-is }
 
-abbrev pub lists : Test (List ℕ)
-lists = record { same = same-list; is = same-list-is }
+abbrev pub list-test : Test (List ℕ)
+list-test = record { same = same-list; is = same-list-is }
 
-abbrev pub verdicts : Test Verdict
-verdicts = record { same = same-verdict; is = same-verdict-is }
+abbrev pub verdict-test : Test Verdict
+verdict-test = record { same = same-verdict; is = same-verdict-is }
 
-abbrev pub responses : Test Response
-responses = record { same = same-response; is = same-response-is }
+abbrev pub response-test : Test Response
+response-test = record { same = same-response; is = same-response-is }
 
-abbrev pub replays : Test Replayed
-replays = record { same = same-replay; is = same-replay-is }
+abbrev pub replay-test : Test Replayed
+replay-test = record { same = same-replay; is = same-replay-is }
 
 -- what nobody names is never the same: what a table is, a window and a bench
 abbrev pub unnamed : {A : Type 0} → Test A

@@ -16,7 +16,7 @@ use Rattle.bench.proofs.OneUnit.{tick-stands}
 use Rattle.bench.specs.Loaded.{slots-of, loaded}
 use Rattle.laws.specs.Sums.{tabulate}
 use Rattle.desk.specs.FlatBench.{outcome-number, missed-record, flat-bench, flat-tick}
-use Rattle.desk.proofs.FlatTickLaws.{tick-stopped, tick-past, tick-running}
+use Rattle.desk.proofs.FlatTickLaws.{flat-tick-stopped, flat-tick-past, flat-tick-running}
 use Rattle.promise.specs.Forms.{outcome-by, read-state}
 use Rattle.promise.specs.NothingLost.{flat-run, Stepped, Idle-zero}
 
@@ -38,15 +38,16 @@ module _ (b : Bench) where
   unfolding flat-bench
   stopped from =
       stands (λ going. let runs = ap outcome-number (going .running) in omega arith)
-      (tick-stopped (flat-bench b) (λ runs. omega arith))
+      (flat-tick-stopped (flat-bench b) (λ runs. omega arith))
 
   goes : b .outcome ≡ Running → flat-tick (flat-bench b) ≡ flat-bench (tick-of b)
   unfolding flat-bench
   goes runs =
       let zero-is = ap outcome-number runs in
       ⊎-elim
-      (λ past. stands (λ going. let in-time = going .in-time in omega arith) (tick-past (flat-bench b) zero-is past))
-      (λ within. sym (tick-running (flat-bench b) zero-is within (ap (with-outcome b) runs) refl refl))
+      (λ past.
+      stands (λ going. let in-time = going .in-time in omega arith) (flat-tick-past (flat-bench b) zero-is past))
+      (λ within. sym (flat-tick-running (flat-bench b) zero-is within (ap (with-outcome b) runs) refl refl))
       (lt-or-le last-tick (b .tick))
 
   by-outcome : (o : Outcome) → b .outcome ≡ o → flat-tick (flat-bench b) ≡ flat-bench (tick-of b)

@@ -10,7 +10,7 @@ use Rattle.model.specs.Verdict.{horizon, verdict}
 use Rattle.model.specs.Answer.{Answer, answered, refused}
 use Rattle.table.specs.TableOf.{table-of}
 use Rattle.table.specs.WellFormed.{WellFormed}
-use Rattle.table.specs.TableRefusals.{Refused-with}
+use Rattle.table.specs.TableRefusals.{Table-refused}
 use Rattle.table.specs.declared.reader.Reading.{Reading}
 use Rattle.table.specs.declared.reader.Reading.the-variants.{Table, Refused}
 use Rattle.table.specs.TableReader.{reading-of}
@@ -20,7 +20,7 @@ use Rattle.desk.specs.Questions.{on-table, verdict-asked}
 module _ {A : Type 0} (s : List ℕ) (ask : Model.Table → Answer A) where
   -- ---- from the bytes to the answer
 
-  pub table-refused : {number index : ℕ} → Refused-with s number index → on-table s ask ≡ refused number index
+  pub table-refused : {number index : ℕ} → Table-refused s number index → on-table s ask ≡ refused number index
   table-refused {number} {index} bad = rw (refused-read s number index bad)
 
   pub table-asked : WellFormed s → on-table s ask ≡ ask (table-of s)
@@ -29,7 +29,7 @@ module _ {A : Type 0} (s : List ℕ) (ask : Model.Table → Answer A) where
   -- ---- and back
 
   pub table-told : (Told : Answer A → Type 0)
-      → ((number index : ℕ) → Refused-with s number index → Told (refused number index))
+      → ((number index : ℕ) → Table-refused s number index → Told (refused number index))
       → (WellFormed s → Told (ask (table-of s)))
       → Told (on-table s ask)
   table-told Told bad good = which (reading-of s) refl
@@ -42,7 +42,7 @@ module _ {A : Type 0} (s : List ℕ) (ask : Model.Table → Answer A) where
   pub answered-well : {value : A} → on-table s ask ≡ answered value → WellFormed s
   answered-well {value} = table-told (λ said. said ≡ answered value → WellFormed s) bad (λ well is. well)
     where
-      bad : (number index : ℕ) → Refused-with s number index → refused number index ≡ answered value → WellFormed s
+      bad : (number index : ℕ) → Table-refused s number index → refused number index ≡ answered value → WellFormed s
       bad number index named is = let apart : _≡_ {A = ℕ} 0 1 = cc in absurd (omega arith)
 
 pub well-judged : (s : List ℕ) → WellFormed s → verdict-asked s ≡ answered (verdict horizon (table-of s))

@@ -16,7 +16,7 @@ use Rattle.model.specs.Answer.{Answer}
 use Rattle.table.specs.Bytes.{records}
 use Rattle.requests.specs.Entry.{list-of}
 use Rattle.place.specs.Place.{buffer-after}
-use Rattle.desk.specs.Orders.{Order, table-only, time-order, task-order, frame-order, size-order, writing-order, list-in}
+use Rattle.desk.specs.Orders.{Test-order, table-only, time-order, task-order, frame-order, size-order, writing-order, list-in}
 use Rattle.desk.specs.Questions.{read-asked, demand-asked, work-asked, margin-asked, window-asked, verdict-asked, response-asked, size-asked, overload-asked}
 use Rattle.desk.specs.ListQuestions.{counts, loads, replays, list-asked, load-asked, replay-asked}
 use Rattle.promise.specs.Given.{Given, List-given}
@@ -45,7 +45,7 @@ pub record Row : Type 1 where
   pub Lends : List ℕ → Type 0  -- what the other slice holds that the question is asked with, if it has one
   pub after : List ℕ  -- what a lent buffer holds afterwards; nothing where none is lent
 
-abbrev of-table : {A : Type 0} → List ℕ → Order → (Table → A) → Answer A → Form A → Row
+abbrev of-table : {A : Type 0} → List ℕ → Test-order → (Table → A) → Answer A → Form A → Row
 of-table {A} s order ask said form =
     record {
       Says = A;

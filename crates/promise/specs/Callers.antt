@@ -12,7 +12,7 @@ use Rattle.model.specs.Verdict.{horizon}
 use Rattle.model.specs.VerdictMeaning.{Undecided}
 use Rattle.model.specs.Request.{Legal}
 use Rattle.table.specs.TableOf.{table-of}
-use Rattle.table.specs.TableRefusals as Table
+use Rattle.table.specs.TableRefusals.{Table-refused}
 use Rattle.requests.specs.Entry.{list-of}
 use Rattle.desk.specs.declared.answers.Verdict.{Verdict}
 use Rattle.desk.specs.declared.answers.Written.{Written}
@@ -38,7 +38,7 @@ pub record Callers (s : Slice) : Type 0 where
   pub passed : (r : Verdict) → Judges s r → r .verdict ≡ 2 → Passed (now s)
   pub undecided : (r : Verdict) → Judges s r → r .verdict ≡ 3 → Undecided horizon (table-of (now s))
   pub refuses : (r : Verdict) → Judges s r → r .verdict ≡ 0
-      → Table.Refused-with (now s) (r .refusal .number) (r .refusal .index)
+      → Table-refused (now s) (r .refusal .number) (r .refusal .index)
   pub no-other : (r : Verdict) → Judges s r → r .verdict ≤ 3
   -- what was written, read out of the buffer again, is a legal list that no schedule finishes
   pub wrote : (buffer : Slice) (place : ℕ) (r : Written) (after : List ℕ) → Writes-into s buffer place r after

@@ -20,7 +20,7 @@ use Rattle.model.specs.Service.{machine-serves}
 use Rattle.model.specs.Answer.{answered}
 use Rattle.model.proofs.EdgeExamples as Edge
 use Rattle.model.proofs.JobExamples.{Too-many, Released-first, one-job, Ends-early, Placed-first}
-use Rattle.model.proofs.PeakStart.{above}
+use Rattle.model.proofs.PeakStart.{peak-first}
 use Rattle.table.specs.TableOf.{table-of}
 use Rattle.requests.specs.Entry.{list-of}
 use Rattle.requests.specs.Accepted.{Accepted}
@@ -119,9 +119,9 @@ pub record Examples : Type 0 where
   -- responses: late, the edges of the recurrence, and that the peak start can be too kind
   pub late-one : response-asked late-table 1 0 ≡ answered (late 5 1)
   pub edges : Edge.Edges
-  pub from-the-peak : response (Edge.over above (Edge.sporadic 3 9 20)) 1 0 ≡ on-time 8 2
-  pub from-the-heaviest : response-by (work above) 3 9 ≡ late 10 2
-  pub heaviest-start : counted above (λ i. 1) 10 3 ≡ work above 10
+  pub from-the-peak : response (Edge.over peak-first (Edge.sporadic-task 3 9 20)) 1 0 ≡ on-time 8 2
+  pub from-the-heaviest : response-by (work peak-first) 3 9 ≡ late 10 2
+  pub heaviest-start : counted peak-first (λ i. 1) 10 3 ≡ work peak-first 10
   -- the theorems about jobs
   pub too-many : Too-many
   pub released-first : Released-first

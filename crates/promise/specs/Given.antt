@@ -9,20 +9,20 @@ use Rattle.laws.specs.Ladder.{Breaks}
 use Rattle.model.specs.Answer.{Answer, answered, refused}
 use Rattle.table.specs.TableOf.{table-of}
 use Rattle.table.specs.WellFormed.{WellFormed}
-use Rattle.table.specs.TableRefusals as Table
+use Rattle.table.specs.TableRefusals.{Table-refused}
 use Rattle.requests.specs.Accepted.{Accepted}
-use Rattle.requests.specs.ListRefusals as Requests
-use Rattle.desk.specs.Orders.{Order}
+use Rattle.requests.specs.ListRefusals.{List-refused}
+use Rattle.desk.specs.Orders.{Test-order}
 
 -- ---- of a table: "Tables are tested first", then the question's own order
 
 -- the bytes are a table, and the first rule of the order that they break gives this refusal
-pub record Own (s : List ℕ) (order : Order) (number index : ℕ) : Type 0 where
+pub record Own (s : List ℕ) (order : Test-order) (number index : ℕ) : Type 0 where
   pub table-good : WellFormed s
   pub breaks : Breaks order s number index
 
-abbrev pub Given : List ℕ → Order → ℕ → ℕ → Type 0
-Given s order number index = Table.Refused-with s number index ⊎ Own s order number index
+abbrev pub Given : List ℕ → Test-order → ℕ → ℕ → Type 0
+Given s order number index = Table-refused s number index ⊎ Own s order number index
 
 -- ---- of a table with a request list
 
@@ -34,10 +34,10 @@ pub record Both-good (s list : List ℕ) : Type 0 where
 -- the table is good, and the list gets this refusal
 pub record List-bad (s list : List ℕ) (number index : ℕ) : Type 0 where
   pub table-good : WellFormed s
-  pub list-bad : Requests.Refused-with (table-of s) list number index
+  pub list-bad : List-refused (table-of s) list number index
 
 abbrev pub List-given : List ℕ → List ℕ → ℕ → ℕ → Type 0
-List-given s list number index = Table.Refused-with s number index ⊎ List-bad s list number index
+List-given s list number index = Table-refused s number index ⊎ List-bad s list number index
 
 -- ---- exactly
 

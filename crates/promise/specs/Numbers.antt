@@ -13,9 +13,9 @@ use Rattle.model.specs.VerdictMeaning.{Window-says}
 use Rattle.model.specs.Request.{Has-frame}
 use Rattle.model.specs.Jobs.{jobs-of}
 use Rattle.model.specs.Machine.{sooner}
-use Rattle.model.specs.Replay.{Replayed, Says}
+use Rattle.model.specs.Replay.{Replayed, Replay-says}
 use Rattle.model.specs.Response.{Response, higher-share, response}
-use Rattle.model.specs.ResponseMeaning as Recurrence
+use Rattle.model.specs.ResponseMeaning.{Response-says}
 use Rattle.model.specs.Answer.{answered}
 use Rattle.table.specs.Bytes.{records}
 use Rattle.table.specs.TableOf.{table-of}
@@ -30,7 +30,7 @@ use Rattle.promise.specs.Bench.{Loaded-rightly}
 pub record Replayed-rightly (s list : List ℕ) : Type 0 where
   pub answer : Replayed
   pub is : replay-asked s list ≡ answered answer
-  pub says : let jobs = jobs-of (table-of s) (list-of list) in Says jobs (sooner jobs) answer
+  pub says : let jobs = jobs-of (table-of s) (list-of list) in Replay-says jobs (sooner jobs) answer
 
 -- of bytes that are a table
 pub record Numbers (s : List ℕ) : Type 0 where
@@ -50,14 +50,15 @@ pub record Numbers (s : List ℕ) : Type 0 where
       → response-asked s k i ≡ answered (response (table-of s) k i)
   -- which says of the recurrence what the document says: a value that repeats, or passes D, and its index
   pub responses-say : (k i : ℕ) (r : Response) → response-asked s k i ≡ answered r
-      → Recurrence.Says (higher-share (table-of s) k) (table-of s .task k .E i) (table-of s .task k .D i) r
+      → Response-says (higher-share (table-of s) k) (table-of s .task k .E i) (table-of s .task k .D i) r
   -- and whatever says that of a frame is its answer
   pub responses-only : (k i : ℕ) (r : Response) → Has-frame (table-of s) k i → Within-P s (records s)
-      → Recurrence.Says (higher-share (table-of s) k) (table-of s .task k .E i) (table-of s .task k .D i) r
+      → Response-says (higher-share (table-of s) k) (table-of s .task k .E i) (table-of s .task k .D i) r
       → response-asked s k i ≡ answered r
   -- of bytes that are a list of the table
   pub counts : (list : List ℕ) → Accepted (table-of s) list → list-asked s list ≡ answered (entries list)
   pub loads : (list : List ℕ) → Accepted (table-of s) list → Loaded-rightly s list
   pub replays : (list : List ℕ) → Accepted (table-of s) list → Replayed-rightly s list
   pub replays-only : (list : List ℕ) (r : Replayed) → Accepted (table-of s) list
-      → (let jobs = jobs-of (table-of s) (list-of list) in Says jobs (sooner jobs) r) → replay-asked s list ≡ answered r
+      → (let jobs = jobs-of (table-of s) (list-of list) in Replay-says jobs (sooner jobs) r)
+      → replay-asked s list ≡ answered r

@@ -13,8 +13,8 @@ use Rattle.requests.specs.declared.list_reader.Checked.the-variants as c
 use Rattle.requests.specs.Entry.{entry-size, entries, most-requests, entry-of, list-of}
 use Rattle.requests.specs.ListRules.{Placed}
 use Rattle.requests.specs.ListReader.{check-of}
-use Rattle.requests.specs.Accepted.{Good, Accepted, In-rule, Listed}
-use Rattle.requests.proofs.ListLengthLaws.{right-few}
+use Rattle.requests.specs.Accepted.{Good-request, Accepted, In-rule, Listed}
+use Rattle.requests.proofs.ListLengthLaws.{list-length-few}
 use Rattle.requests.proofs.ListReaderExact.{check-good, check-count}
 
 -- ---- the rules of the whole list
@@ -31,7 +31,7 @@ module _ {table : Table} {s : List ℕ} (accepted : Accepted table s) where
   accepted-sorted i j before within = accepted .good j within .in-place .ordered i before
 
   pub accepted-few : entries s ≤ most-requests
-  accepted-few = right-few (accepted .long)
+  accepted-few = list-length-few (accepted .long)
 
   pub accepted-pads : (i : ℕ) → i < entries s → entry-of s i .pad ≡ 0
   accepted-pads i within = accepted .good i within .in-place .pad
@@ -53,7 +53,7 @@ accepted-in-rule accepted =
 module _ {last : ℕ} {table : Table} {s : List ℕ} (pads : (i : ℕ) → i < entries s → entry-of s i .pad ≡ 0)
     (legal : Legal table (list-of s)) (sorted : Sorted (list-of s))
     (near : (i : ℕ) → i < entries s → list-of s .request i .arrival ≤ last) where
-  pub rules-good : (j : ℕ) → j < entries s → Good last table s j
+  pub rules-good : (j : ℕ) → j < entries s → Good-request last table s j
   rules-good j within =
       record {
         in-place =

@@ -76,8 +76,8 @@ module _ (list : Requests) (short : (i : ℕ) → i < list .count → list .requ
 
   -- ---- the list
 
-  pub read-back : Same (list-of (bytes-of list)) list
-  read-back =
+  pub bytes-read-back : Same (list-of (bytes-of list)) list
+  bytes-read-back =
       record {
         count-is = omega (arith, bytes-length list (list .count));
         request-is = λ i within. ap request-in (entry-back i within);

@@ -10,9 +10,9 @@ use Rattle.laws.proofs.Cases.{lt-or-le}
 use Rattle.model.specs.Task.{Table}
 use Rattle.model.specs.Request.{Next}
 use Rattle.requests.specs.declared.entry.Entry.{Entry}
-use Rattle.requests.specs.declared.list_rules.SoFar.{SoFar}
+use Rattle.requests.specs.declared.list_rules.Carry.{Carry}
 use Rattle.requests.specs.Entry.{entry-of, list-of}
-use Rattle.requests.specs.ListRules.{none-yet, next-frame, soonest}
+use Rattle.requests.specs.ListRules.{nothing-carried, next-frame, soonest}
 
 -- record m is the latest of task k before record i
 pub record Latest (s : List ℕ) (i k m : ℕ) : Type 0 where
@@ -27,11 +27,11 @@ pub data Of-task (table : Table) (s : List ℕ) (i k next from : ℕ) : Type 0 w
       Of-task table s i k next from
 
 -- x is the record just before
-pub record Last (b : SoFar) (x : Entry) : Type 0 where
+pub record Last (b : Carry) (x : Entry) : Type 0 where
   pub arrival : b .arrival ≡ x .arrival
   pub task : b .task ≡ x .task + 1
 
-pub record Carried (table : Table) (s : List ℕ) (i : ℕ) (b : SoFar) : Type 0 where
+pub record Carried (table : Table) (s : List ℕ) (i : ℕ) (b : Carry) : Type 0 where
   pub few : table .tasks ≤ 16  -- each task has a place
   pub next-long : length (b .next) ≡ 16
   pub from-long : length (b .from) ≡ 16
@@ -40,7 +40,7 @@ pub record Carried (table : Table) (s : List ℕ) (i : ℕ) (b : SoFar) : Type 0
   pub last : (j : ℕ) → j + 1 ≡ i → Last b (entry-of s j)
   pub of-task : (k : ℕ) → k < 16 → Of-task table s i k (getD (b .next) k 0) (getD (b .from) k 0)
 
-pub carried-start : {table : Table} (s : List ℕ) → table .tasks ≤ 16 → Carried table s 0 none-yet
+pub carried-start : {table : Table} (s : List ℕ) → table .tasks ≤ 16 → Carried table s 0 nothing-carried
 carried-start s few =
     record {
       few = few;

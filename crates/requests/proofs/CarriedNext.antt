@@ -11,9 +11,9 @@ use native.Mathlib.Numerals.{add-one}
 use native.Mathlib.Omega.{arith}
 use Rattle.laws.proofs.Cases.{lt-or-last}
 use Rattle.model.specs.Task.{Table}
-use Rattle.requests.specs.declared.list_rules.SoFar.{SoFar}
+use Rattle.requests.specs.declared.list_rules.Carry.{Carry}
 use Rattle.requests.specs.Entry.{entry-of}
-use Rattle.requests.specs.ListRules.{after-of}
+use Rattle.requests.specs.ListRules.{list-after}
 use Rattle.requests.proofs.CarriedLaws.{Latest, Of-task, unseen, seen, Carried}
 
 -- record i, the newest, is the latest of its own task
@@ -42,9 +42,9 @@ module _ (s : List ℕ) (i k : ℕ) (other : k ≡ entry-of s i .task → ⊥) w
             after = λ j later within same. latest .after j later (before-it j within same) same;
           }
 
-module _ {table : Table} {s : List ℕ} {i : ℕ} {b : SoFar} (carried : Carried table s i b) where
+module _ {table : Table} {s : List ℕ} {i : ℕ} {b : Carry} (carried : Carried table s i b) where
   of-task-next : entry-of s i .task < 16 → (k : ℕ) → k < 16 →
-      let after = after-of table b (entry-of s i) in
+      let after = list-after table b (entry-of s i) in
       Of-task table s (i + 1) k (getD (after .next) k 0) (getD (after .from) k 0)
   of-task-next low k inside =
       elim (ℕ-discrete k (entry-of s i .task)) [
@@ -59,7 +59,7 @@ module _ {table : Table} {s : List ℕ} {i : ℕ} {b : SoFar} (carried : Carried
             (stays s i k other (carried .of-task k inside)))
       ]
 
-  pub carried-next : entry-of s i .task < 16 → Carried table s (i + 1) (after-of table b (entry-of s i))
+  pub carried-next : entry-of s i .task < 16 → Carried table s (i + 1) (list-after table b (entry-of s i))
   carried-next low =
       record {
         few = carried .few;

@@ -8,16 +8,16 @@ use lib.Dec.{ltb}
 use Rattle.laws.specs.Ladder.{Keeps}
 use Rattle.laws.proofs.LadderLaws.{breaks-number}
 use Rattle.model.specs.Task.{Table}
-use Rattle.requests.specs.Accepted.{rules, Good}
-use Rattle.requests.specs.ListRefusals.{Breaks}
+use Rattle.requests.specs.Accepted.{list-rules, Good-request}
+use Rattle.requests.specs.ListRefusals.{Request-breaks}
 
-pub good-keeps : {last : ℕ} {table : Table} {s : List ℕ} {j : ℕ} → Good last table s j
-    → Keeps (rules last table) (s, j)
-good-keeps good = (good .in-place, (good .in-turn, tt))
+pub good-request-keeps : {last : ℕ} {table : Table} {s : List ℕ} {j : ℕ} → Good-request last table s j
+    → Keeps (list-rules last table) (s, j)
+good-request-keeps good = (good .in-place, (good .in-turn, tt))
 
 module _ (last : ℕ) (table : Table) (s : List ℕ) (j : ℕ) where
-  pub keeps-good : Keeps (rules last table) (s, j) → Good last table s j
-  keeps-good (in-place, (in-turn, all)) = record { in-place = in-place; in-turn = in-turn }
+  pub keeps-good-request : Keeps (list-rules last table) (s, j) → Good-request last table s j
+  keeps-good-request (in-place, (in-turn, all)) = record { in-place = in-place; in-turn = in-turn }
 
-  pub breaks-some : Breaks last table s j 0 → ⊥
-  breaks-some breaks = false≢true (breaks-number (s, j) (ltb 0) (rules last table) refl 0 0 breaks)
+  pub request-breaks-some : Request-breaks last table s j 0 → ⊥
+  request-breaks-some breaks = false≢true (breaks-number (s, j) (ltb 0) (list-rules last table) refl 0 0 breaks)

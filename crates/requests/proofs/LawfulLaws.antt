@@ -12,7 +12,7 @@ use Rattle.model.proofs.WovenLegal.{same-legal, same-sorted}
 use Rattle.requests.specs.Entry.{entry-size, entries, most-requests, widest, bytes-of}
 use Rattle.requests.specs.Accepted.{Lawful, Accepted}
 use Rattle.requests.proofs.AcceptedLaws.{rules-good}
-use Rattle.requests.proofs.BytesLaws.{bytes-length, read-back, pads-zero}
+use Rattle.requests.proofs.BytesLaws.{bytes-length, bytes-read-back, pads-zero}
 
 -- ---- the bytes of a list
 
@@ -25,7 +25,7 @@ module _ {table : Table} (list : Requests) (legal : Legal table list) (sorted : 
 
   pub written-lawful : Lawful table (bytes-of list)
   written-lawful =
-      let same = read-back list short in
+      let same = bytes-read-back list short in
       let there : (i : ℕ) → i < entries (bytes-of list) → i < list .count = λ i within. omega (arith, same .count-is) in
       record {
         whole = omega (arith, bytes-length list (list .count));

@@ -12,14 +12,14 @@ use Rattle.laws.proofs.Tests.{Catches, catches-as}
 use Rattle.model.specs.Task.{Table}
 use Rattle.model.specs.Request.{Before}
 use Rattle.requests.specs.declared.entry.Entry.{Entry}
-use Rattle.requests.specs.declared.list_rules.SoFar.{SoFar}
+use Rattle.requests.specs.declared.list_rules.Carry.{Carry}
 use Rattle.requests.specs.Entry.{entry-of, request-in, list-of}
 use Rattle.requests.specs.ListRules.{misplaced, out-of-turn}
-use Rattle.requests.specs.Accepted.{In-place, In-turn, rules}
+use Rattle.requests.specs.Accepted.{In-place, In-turn, list-rules}
 use Rattle.requests.proofs.TestLaws.{In-order, catches-place, catches-turn}
 use Rattle.requests.proofs.CarriedLaws.{Of-task, unseen, seen, Last, Carried, latest-next, latest-is}
 
-module _ {table : Table} {s : List ℕ} {i : ℕ} {b : SoFar} (carried : Carried table s i b) where
+module _ {table : Table} {s : List ℕ} {i : ℕ} {b : Carry} (carried : Carried table s i b) where
   -- ---- rule 10
 
   ordered : In-order b (entry-of s i) → (j : ℕ) → j + 1 ≡ i → Before (list-of s .request j) (list-of s .request i)
@@ -88,5 +88,5 @@ module _ {table : Table} {s : List ℕ} {i : ℕ} {b : SoFar} (carried : Carried
 
   -- ---- both: the test of rule 11 leans on rule 10
 
-  pub rules-caught : (last : ℕ) → Caught (rules last table) (b, entry-of s i) (s, i)
-  rules-caught last = rung (catches-10 last) (λ in-place. rung (catches-11 in-place) (λ in-turn. tt))
+  pub list-rules-caught : (last : ℕ) → Caught (list-rules last table) (b, entry-of s i) (s, i)
+  list-rules-caught last = rung (catches-10 last) (λ in-place. rung (catches-11 in-place) (λ in-turn. tt))

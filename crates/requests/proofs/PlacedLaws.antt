@@ -16,9 +16,9 @@ use Rattle.table.specs.Ready.{Ready, Frames}
 use Rattle.table.specs.TableOf.{table-of}
 use Rattle.table.proofs.ReadyLaws.{ready-tasks, ready-few}
 use Rattle.requests.specs.declared.entry.Entry.{Entry}
-use Rattle.requests.specs.declared.list_rules.SoFar.{SoFar}
+use Rattle.requests.specs.declared.list_rules.Carry.{Carry}
 use Rattle.requests.specs.ListRules.{out-of-order, misplaced, out-of-turn}
-use Rattle.requests.specs.ListReader.{fault-of}
+use Rattle.requests.specs.ListReader.{list-fault}
 use Rattle.requests.proofs.TestLaws.{catches-place}
 
 -- ---- the next frame
@@ -42,35 +42,35 @@ module _ {s : List ℕ} {plan : Plan} (ready : Ready s plan) (x : Entry) where
     known-task = omega (arith, has .task, ready-tasks ready)
 
 -- a record that rule 10 passes, and so one with no fault, may be told to `after`
-module _ (last : ℕ) (s : List ℕ) (b : SoFar) (x : Entry) where
+module _ (last : ℕ) (s : List ℕ) (b : Carry) (x : Entry) where
   passed-known : misplaced last (table-of s) b x ≡ false → Has-frame (table-of s) (x .task) (x .frame)
   passed-known fine = catches-place last (table-of s) b x .passed fine .known
 
-  pub fine-known : {fault : ℕ} → fault ≡ fault-of last (table-of s) b x → fault ≡ 0
+  pub fine-known : {fault : ℕ} → fault ≡ list-fault last (table-of s) b x → fault ≡ 0
       → Has-frame (table-of s) (x .task) (x .frame)
   fine-known is none = passed-known (which (misplaced last (table-of s) b x) refl)
     where
       which : (r10 : Bool) → misplaced last (table-of s) b x ≡ r10 → misplaced last (table-of s) b x ≡ false
       which true e =
-          let ten : fault-of last (table-of s) b x ≡ 10 = rw e in absurd (omega (arith, sym ten ∙ sym is ∙ none))
+          let ten : list-fault last (table-of s) b x ≡ 10 = rw e in absurd (omega (arith, sym ten ∙ sym is ∙ none))
       which false e = e
 
-pub misplaced-is : (last : ℕ) (s : List ℕ) (b : SoFar) (x : Entry) {strange early : Bool}
+pub misplaced-is : (last : ℕ) (s : List ℕ) (b : Carry) (x : Entry) {strange early : Bool}
     → strange ≡ no-frame (table-of s) (x .task) (x .frame) → early ≡ out-of-order b x
     → (not (eqb (x .pad) 0) || (strange || (ltb last (x .arrival) || early))) ≡ misplaced last (table-of s) b x
 misplaced-is last s b x strange-is early-is = rw (strange-is, early-is)
 
-module _ {s : List ℕ} {plan : Plan} (ready : Ready s plan) (last : ℕ) (b : SoFar) (x : Entry) where
+module _ {s : List ℕ} {plan : Plan} (ready : Ready s plan) (last : ℕ) (b : Carry) (x : Entry) where
   module _ {r10 : Bool} (is-10 : r10 ≡ misplaced last (table-of s) b x) where
-    pub fault-10 : r10 ≡ true → 10 ≡ fault-of last (table-of s) b x
+    pub fault-10 : r10 ≡ true → 10 ≡ list-fault last (table-of s) b x
     fault-10 broken = sym (rw (sym is-10 ∙ broken))
 
     module _ (fine : r10 ≡ false) where
       pub passed-low : x .task < 16
       passed-low = known-low ready x (passed-known last s b x (sym is-10 ∙ fine))
 
-      pub fault-11 : {r11 : Bool} → r11 ≡ out-of-turn b x → r11 ≡ true → 11 ≡ fault-of last (table-of s) b x
+      pub fault-11 : {r11 : Bool} → r11 ≡ out-of-turn b x → r11 ≡ true → 11 ≡ list-fault last (table-of s) b x
       fault-11 is-11 broken = sym (rw (sym is-10 ∙ fine, sym is-11 ∙ broken))
 
-      pub fault-none : {r11 : Bool} → r11 ≡ out-of-turn b x → r11 ≡ false → 0 ≡ fault-of last (table-of s) b x
+      pub fault-none : {r11 : Bool} → r11 ≡ out-of-turn b x → r11 ≡ false → 0 ≡ list-fault last (table-of s) b x
       fault-none is-11 kept = sym (rw (sym is-10 ∙ fine, sym is-11 ∙ kept))

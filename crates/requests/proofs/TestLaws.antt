@@ -8,22 +8,22 @@ use Rattle.model.specs.Task.{Table}
 use Rattle.model.specs.Request.{Has-frame}
 use Rattle.model.proofs.FrameLaws.{catches-frame}
 use Rattle.requests.specs.declared.entry.Entry.{Entry}
-use Rattle.requests.specs.declared.list_rules.SoFar.{SoFar}
+use Rattle.requests.specs.declared.list_rules.Carry.{Carry}
 use Rattle.requests.specs.ListRules.{misplaced, out-of-turn}
 
 -- ---- rule 10
 
-pub record In-order (b : SoFar) (x : Entry) : Type 0 where
+pub record In-order (b : Carry) (x : Entry) : Type 0 where
   pub not-before : b .arrival ≤ x .arrival
   pub rising : x .arrival ≡ b .arrival → b .task ≤ x .task
 
-pub record Place-kept (last : ℕ) (table : Table) (b : SoFar) (x : Entry) : Type 0 where
+pub record Place-kept (last : ℕ) (table : Table) (b : Carry) (x : Entry) : Type 0 where
   pub pad : x .pad ≡ 0
   pub known : Has-frame table (x .task) (x .frame)
   pub near : x .arrival ≤ last
   pub in-order : In-order b x
 
-pub catches-place : (last : ℕ) (table : Table) (b : SoFar) (x : Entry)
+pub catches-place : (last : ℕ) (table : Table) (b : Carry) (x : Entry)
     → Catches (misplaced last table b x) (Place-kept last table b x)
 catches-place last table b x =
     catches-as
@@ -50,11 +50,11 @@ catches-place last table b x =
 -- ---- rule 11
 
 -- where the task has a record before, its next frame is told, and the soonest that it comes
-pub record Turn-kept (b : SoFar) (x : Entry) : Type 0 where
+pub record Turn-kept (b : Carry) (x : Entry) : Type 0 where
   pub frame : 0 < getD (b .next) (x .task) 0 → x .frame + 1 ≡ getD (b .next) (x .task) 0
   pub not-soon : 0 < getD (b .next) (x .task) 0 → getD (b .from) (x .task) 0 ≤ x .arrival
 
-pub catches-turn : (b : SoFar) (x : Entry) → Catches (out-of-turn b x) (Turn-kept b x)
+pub catches-turn : (b : Carry) (x : Entry) → Catches (out-of-turn b x) (Turn-kept b x)
 catches-turn b x =
     catches-as
     (λ kept. record { frame = λ told. kept told .0; not-soon = λ told. kept told .1 })

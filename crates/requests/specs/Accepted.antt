@@ -8,12 +8,12 @@ use Rattle.laws.specs.Ladder.{Rule, rule}
 use Rattle.model.specs.Task.{Table}
 use Rattle.model.specs.Request.{Has-frame, Next, Follows, Legal, Before, Sorted, last-arrival}
 use Rattle.requests.specs.declared.entry.Entry.{Entry}
-use Rattle.requests.specs.declared.list_rules.SoFar.{SoFar}
+use Rattle.requests.specs.declared.list_rules.Carry.{Carry}
 use Rattle.requests.specs.Entry.{entry-size, entries, most-requests, entry-of, list-of}
 use Rattle.requests.specs.ListRules.{misplaced, out-of-turn}
 
 -- rule 10, the length: "A list has 0 to 128 records"
-pub record Length-right (n : ℕ) : Type 0 where
+pub record List-length-right (n : ℕ) : Type 0 where
   pub few : n ≤ most-requests * entry-size
   pub whole : n % entry-size ≡ 0
 
@@ -30,29 +30,29 @@ In-turn table s j = (i : ℕ) → Next (list-of s) i j → Follows table (list-o
 
 -- "in each record 10 before 11": each rule's number; its test, of record x after what is carried, b; and what it says
 -- of record j of the bytes s
-abbrev pub rules : ℕ → Table → List (Rule (SoFar × Entry) (List ℕ × ℕ))
-rules last table =
+abbrev pub list-rules : ℕ → Table → List (Rule (Carry × Entry) (List ℕ × ℕ))
+list-rules last table =
     rule 10 (λ (b, x). misplaced last table b x) (λ (s, j). In-place last table s j)
     ∷ rule 11 (λ (b, x). out-of-turn b x) (λ (s, j). In-turn table s j)
     ∷ []
 
 -- record j keeps them both
-pub record Good (last : ℕ) (table : Table) (s : List ℕ) (j : ℕ) : Type 0 where
+pub record Good-request (last : ℕ) (table : Table) (s : List ℕ) (j : ℕ) : Type 0 where
   pub in-place : In-place last table s j
   pub in-turn : In-turn table s j
 
 -- "arrivals 0 to 65,535": the rules but for the bench's limit of 128 records
 pub record Lawful (table : Table) (s : List ℕ) : Type 0 where
   pub whole : length s % entry-size ≡ 0
-  pub good : (j : ℕ) → j < entries s → Good last-arrival table s j
+  pub good : (j : ℕ) → j < entries s → Good-request last-arrival table s j
 
 pub record Accepted (table : Table) (s : List ℕ) : Type 0 where
-  pub long : Length-right (length s)
-  pub good : (j : ℕ) → j < entries s → Good last-arrival table s j
+  pub long : List-length-right (length s)
+  pub good : (j : ℕ) → j < entries s → Good-request last-arrival table s j
 
 -- the same of the list as a whole: legal, sorted, with no late arrival, of at most 128 records, and with zero pads
 pub record In-rule (table : Table) (s : List ℕ) : Type 0 where
-  pub long : Length-right (length s)
+  pub long : List-length-right (length s)
   pub pads : (i : ℕ) → i < entries s → entry-of s i .pad ≡ 0
   pub legal : Legal table (list-of s)
   pub sorted : Sorted (list-of s)

@@ -12,43 +12,43 @@ use Rattle.model.specs.Task.{Table}
 use Rattle.model.specs.Request.{last-arrival}
 use Rattle.table.specs.declared.reader.Refusal.{Refusal}
 use Rattle.requests.specs.declared.entry.Entry.{Entry}
-use Rattle.requests.specs.declared.list_rules.SoFar.{SoFar}
+use Rattle.requests.specs.declared.list_rules.Carry.{Carry}
 use Rattle.requests.specs.declared.list_reader.Checked.{Checked}
 use Rattle.requests.specs.declared.list_reader.Checked.the-variants.{Legal, Refused}
 use Rattle.requests.specs.Entry.{entry-size, entries, most-requests, entry-of}
-use Rattle.requests.specs.ListRules.{none-yet, after-of}
-use Rattle.requests.specs.Accepted.{rules}
+use Rattle.requests.specs.ListRules.{nothing-carried, list-after}
+use Rattle.requests.specs.Accepted.{list-rules}
 
 -- 10: "list length not a multiple of 8 or above 1,024 (index 0)"
-abbrev pub bad-length : ℕ → Bool
-bad-length n = ltb (most-requests * entry-size) n || not (eqb (n % entry-size) 0)
+abbrev pub bad-list-length : ℕ → Bool
+bad-list-length n = ltb (most-requests * entry-size) n || not (eqb (n % entry-size) 0)
 
 -- "in each record 10 before 11": the number of the first that is broken, or 0
-abbrev pub fault-of : ℕ → Table → SoFar → Entry → ℕ
-fault-of last table b x = climb (rules last table) (λ number index. number) (b, x) 0
+abbrev pub list-fault : ℕ → Table → Carry → Entry → ℕ
+list-fault last table b x = climb (list-rules last table) (λ number index. number) (b, x) 0
 
 -- how a list is read: rule 10 by its length, then the rules 10 and 11 record by record
-abbrev pub reader-of : Table → List ℕ → Reader SoFar Entry
-reader-of table s =
+abbrev pub list-reader : Table → List ℕ → Reader Carry Entry
+list-reader table s =
     record {
-      bad-length = bad-length (length s);
+      bad-length = bad-list-length (length s);
       length-number = 10;
       count = entries s;
       at = entry-of s;
-      start = none-yet;
-      fault = fault-of last-arrival table;
-      after = after-of table;
+      start = nothing-carried;
+      fault = list-fault last-arrival table;
+      after = list-after table;
     }
 
 -- the answer, for n records
-abbrev pub checked-in : ℕ → Read SoFar → Checked
+abbrev pub checked-in : ℕ → Read Carry → Checked
 checked-in n (whole b) = Legal n
 checked-in n (stopped number index) = Refused (record { number = number; index = index })
 
 unfoldable pub check-of : Table → List ℕ → Checked
-check-of table s = checked-in (entries s) (read-all (reader-of table s))
+check-of table s = checked-in (entries s) (read-all (list-reader table s))
 
 -- the refusal that a check carries
-abbrev pub refusal-in : Checked → Refusal
-refusal-in (Legal n) = record { number = 0; index = 0 }
-refusal-in (Refused r) = r
+abbrev pub list-refusal : Checked → Refusal
+list-refusal (Legal n) = record { number = 0; index = 0 }
+list-refusal (Refused r) = r

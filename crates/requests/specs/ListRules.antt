@@ -11,23 +11,23 @@ use Rattle.model.specs.Demand.{frame}
 use Rattle.model.specs.Request.{Has-frame, no-frame, last-arrival}
 use Rattle.table.specs.TableOf.{table-of}
 use Rattle.requests.specs.declared.entry.Entry.{Entry}
-use Rattle.requests.specs.declared.list_rules.SoFar.{SoFar}
+use Rattle.requests.specs.declared.list_rules.Carry.{Carry}
 
 -- before the first record any may come
-abbrev pub none-yet : SoFar
-none-yet = record { arrival = 0; task = 0; next = replicate 16 0; from = replicate 16 0 }
+abbrev pub nothing-carried : Carry
+nothing-carried = record { arrival = 0; task = 0; next = replicate 16 0; from = replicate 16 0 }
 
 -- "sorted by arrival and at equal arrivals by strictly rising task number"
-abbrev pub out-of-order : SoFar → Entry → Bool
+abbrev pub out-of-order : Carry → Entry → Bool
 out-of-order b x = ltb (x .arrival) (b .arrival) || (eqb (x .arrival) (b .arrival) && ltb (x .task) (b .task))
 
 -- 10: "pad not zero, unknown task or frame, arrival too large, order broken". The last arrival is told
-abbrev pub misplaced : ℕ → Table → SoFar → Entry → Bool
+abbrev pub misplaced : ℕ → Table → Carry → Entry → Bool
 misplaced last table b x =
     not (eqb (x .pad) 0) || (no-frame table (x .task) (x .frame) || (ltb last (x .arrival) || out-of-order b x))
 
 -- 11: "next request has the wrong frame or comes too soon"
-abbrev pub out-of-turn : SoFar → Entry → Bool
+abbrev pub out-of-turn : Carry → Entry → Bool
 out-of-turn b x =
     let next = getD (b .next) (x .task) 0 in
     ltb 0 next && (not (eqb (x .frame + 1) next) || ltb (x .arrival) (getD (b .from) (x .task) 0))
@@ -41,8 +41,8 @@ next-frame table x = frame (table .task (x .task)) (x .frame) 1 + 1
 abbrev pub soonest : Table → Entry → ℕ
 soonest table x = x .arrival + table .task (x .task) .P (x .frame)
 
-abbrev pub after-of : Table → SoFar → Entry → SoFar
-after-of table b x =
+abbrev pub list-after : Table → Carry → Entry → Carry
+list-after table b x =
     record {
       arrival = x .arrival;
       task = x .task + 1;

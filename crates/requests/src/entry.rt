@@ -16,7 +16,7 @@ pub struct Entry {
 }
 
 // 16 bits as 32, with the bound that a sum of two asks.
-pub fn wide(x: u16) -> u32
+pub fn wide_half(x: u16) -> u32
     ensures { λ r. ⌜ (r ≡ x) × (r < 65536) ⌝ }
 {
     x as u32
@@ -27,8 +27,8 @@ fn word_at(s: &[u8], at: usize) -> u32
     requires { ⌜ at + 3 < length (now s) ⌝ }
     ensures { λ r. ⌜ r ≡ word (now (s .entry)) at ⌝ }
 {
-    let low = wide(table::record::half_at(s, at));
-    let high = wide(table::record::half_at(s, at + 2));
+    let low = wide_half(table::record::half_at(s, at));
+    let high = wide_half(table::record::half_at(s, at + 2));
     low + 65536 * high
 }
 

@@ -6,29 +6,29 @@ ghost use Prim.Native.Nat.{_<_};
 ghost use Rattle.model.specs.Request.{Has-frame};
 ghost use Rattle.table.specs.Ready.{Ready};
 ghost use Rattle.table.specs.TableOf.{table-of};
-ghost use Rattle.requests.specs.ListReader.{fault-of};
+ghost use Rattle.requests.specs.ListReader.{list-fault};
 ghost use Rattle.requests.specs.ListRules.{out-of-order, misplaced, out-of-turn};
-ghost use Rattle.requests.specs.ListRules.{next-frame, soonest, after-of};
+ghost use Rattle.requests.specs.ListRules.{next-frame, soonest, list-after};
 
 // "arrivals 0 to 65,535"
 pub const LAST_ARRIVAL: u32 = 65535;
 
 // What the records so far say. The next record comes after `arrival`, or at it with a task from `task` on; of each
 // task, `next` is one more than the frame that has to come next, or 0 where any may, and it may not come before `from`.
-pub struct SoFar {
+pub struct Carry {
     pub arrival: u32,
     pub task: u16,
     pub next: [u8; 16],
     pub from: [u64; 16],
 }
 
-fn is_out_of_order(b: SoFar, x: Entry) -> bool
+fn is_out_of_order(b: Carry, x: Entry) -> bool
     ensures { λ r. ⌜ r ≡ out-of-order b x ⌝ }
 {
     (x.arrival < b.arrival) | ((x.arrival == b.arrival) & ((x.task as u16) < b.task))
 }
 
-fn is_misplaced(s: &[u8], plan: Plan, last: u32, b: SoFar, x: Entry) -> bool
+fn is_misplaced(s: &[u8], plan: Plan, last: u32, b: Carry, x: Entry) -> bool
     requires { ⌜ Ready (now s) plan ⌝ }
     ensures { λ r. ⌜ r ≡ misplaced last (table-of (now (s .entry))) b x ⌝ }
 {
@@ -36,7 +36,7 @@ fn is_misplaced(s: &[u8], plan: Plan, last: u32, b: SoFar, x: Entry) -> bool
     (x.pad != 0) | (unknown | ((last < x.arrival) | is_out_of_order(b, x)))
 }
 
-fn is_out_of_turn(b: SoFar, x: Entry) -> bool
+fn is_out_of_turn(b: Carry, x: Entry) -> bool
     requires { ⌜ x .task < 16 ⌝ }
     ensures { λ r. ⌜ r ≡ out-of-turn b x ⌝ }
 {
@@ -46,9 +46,9 @@ fn is_out_of_turn(b: SoFar, x: Entry) -> bool
 }
 
 // The number of the first rule that is broken, or 0, where no arrival may be past `last`.
-pub fn fault(s: &[u8], plan: Plan, last: u32, b: SoFar, x: Entry) -> u8
+pub fn list_fault(s: &[u8], plan: Plan, last: u32, b: Carry, x: Entry) -> u8
     requires { ⌜ Ready (now s) plan ⌝ }
-    ensures { λ r. ⌜ r ≡ fault-of last (table-of (now (s .entry))) b x ⌝ }
+    ensures { λ r. ⌜ r ≡ list-fault last (table-of (now (s .entry))) b x ⌝ }
 {
     if is_misplaced(s, plan, last, b, x) {
         return 10;
@@ -78,16 +78,16 @@ fn soonest_after(s: &[u8], plan: Plan, x: Entry) -> u64
 }
 
 // What is known after a good record.
-pub fn after(s: &[u8], plan: Plan, b: SoFar, x: Entry) -> SoFar
+pub fn list_after(s: &[u8], plan: Plan, b: Carry, x: Entry) -> Carry
     requires { ⌜ Ready (now s) plan × Has-frame (table-of (now s)) (x .task) (x .frame) ⌝ }
-    ensures { λ r. ⌜ r ≡ after-of (table-of (now (s .entry))) b x ⌝ }
+    ensures { λ r. ⌜ r ≡ list-after (table-of (now (s .entry))) b x ⌝ }
 {
     let task = x.task as usize;
     let mut next = b.next;
     next[task] = next_after(s, plan, x);
     let mut from = b.from;
     from[task] = soonest_after(s, plan, x);
-    SoFar {
+    Carry {
         arrival: x.arrival,
         task: x.task as u16 + 1,
         next,

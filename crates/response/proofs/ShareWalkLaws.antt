@@ -12,14 +12,14 @@ use Rattle.model.proofs.DemandLaws.{work-moves}
 use Rattle.model.proofs.ShareLaws.{peak-lowest}
 use Rattle.model.proofs.HigherLaws.{higher-sum}
 use Rattle.sums.specs.declared.peak.Peak.{Peak}
-use Rattle.sums.specs.Sized.{bound, Counted, Peaks}
+use Rattle.sums.specs.Sized.{bound, Summed, Peaks}
 use Rattle.response.specs.Shares.{Share, Shares}
 
 -- ---- one task
 
 -- the start that brings the most work into one tick is the peak frame, and the sum from there is the share
 pub share-counted : {task : Task} → Proper task → {peak : Peak} → Peaks task false 1 peak → {w r : ℕ}
-    → Counted task false w (peak .start) r → Share task w r
+    → Summed task false w (peak .start) r → Share task w r
 unfolding share-of
 share-counted {task} proper peak {w} sum =
     record {

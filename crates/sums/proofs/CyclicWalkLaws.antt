@@ -14,7 +14,7 @@ use Rattle.model.proofs.CyclicLaws.{Moves, frame-lt, counted-zero, counted-on}
 use Rattle.table.specs.Bytes.{record-of}
 use Rattle.table.specs.TableOf.{task-of}
 use Rattle.table.specs.declared.record.Record.{Record}
-use Rattle.sums.specs.Sized.{longest, reach-by, Stands, Counted}
+use Rattle.sums.specs.Sized.{largest, reach-by, Stands, Summed}
 
 -- a task moves by either condition
 pub moves-by : (due : Bool) {task : Task} → Proper task → Moves task (reach-by due task)
@@ -22,13 +22,13 @@ moves-by true proper = record { some = proper .some; gap = proper .moves; room =
 moves-by false proper = record { some = proper .some; gap = proper .moves; room = λ i h. omega arith }
 
 -- with `left` of the time left, at frame i: the sum so far and what is left to count give the whole
-pub record Counting (task : Task) (due : Bool) (t start left i sum : ℕ) : Type 0 where
+pub record Summing (task : Task) (due : Bool) (t start left i sum : ℕ) : Type 0 where
   pub inside : i < task .count
-  pub small : sum + longest * left ≤ longest * t
+  pub small : sum + largest * left ≤ largest * t
   pub whole : sum + counted task (reach-by due task) left i ≡ counted task (reach-by due task) t start
 
 -- what one turn reads and makes: the record x of frame i, the room it must have, what it adds
-pub record Turn (s : List ℕ) (first frames : ℕ) (due : Bool) (left i gain left′ i′ : ℕ) (x : Record)
+pub record Summing-turn (s : List ℕ) (first frames : ℕ) (due : Bool) (left i gain left′ i′ : ℕ) (x : Record)
     (room : ℕ) : Type 0 where
   pub some : 0 < left
   pub record-is : x ≡ record-of s (first + i)
@@ -44,7 +44,8 @@ record Step (task : Task) (due : Bool) (left i gain left′ i′ : ℕ) : Type 0
   next : i′ ≡ frame task i 1
 
 step : {s : List ℕ} {first frames : ℕ} {due : Bool} {left i gain left′ i′ : ℕ} {x : Record} {room : ℕ}
-    → Turn s first frames due left i gain left′ i′ x room → Step (task-of s first frames) due left i gain left′ i′
+    → Summing-turn s first frames due left i gain left′ i′ x room
+    → Step (task-of s first frames) due left i gain left′ i′
 unfolding task-of frame
 step turn =
     record {
@@ -53,14 +54,14 @@ step turn =
       next = turn .next-is;
     }
 
-pub counting-start : (task : Task) (due : Bool) (t start : ℕ) → start < task .count
-    → Counting task due t start t start 0
-counting-start task due t start inside = record { inside = inside; small = omega arith; whole = omega arith }
+pub summing-start : (task : Task) (due : Bool) (t start : ℕ) → start < task .count
+    → Summing task due t start t start 0
+summing-start task due t start inside = record { inside = inside; small = omega arith; whole = omega arith }
 
 module _ {task : Task} (proper : Proper task) {due : Bool} {t start left i sum : ℕ}
-    (so-far : Counting task due t start left i sum) where
-  pub counting-end : left ≤ 0 → Counted task due t start sum
-  counting-end none =
+    (so-far : Summing task due t start left i sum) where
+  pub summing-end : left ≤ 0 → Summed task due t start sum
+  summing-end none =
       record {
         is = omega (
           arith,
@@ -75,7 +76,7 @@ module _ {task : Task} (proper : Proper task) {due : Bool} {t start left i sum :
       zero-left = omega arith
 
   step-on : {gain left′ i′ : ℕ} → left′ < left → Step task due left i gain left′ i′
-      → Counting task due t start left′ i′ (sum + gain)
+      → Summing task due t start left′ i′ (sum + gain)
   step-on falls one =
       record {
         inside = rw (one .next) (frame-lt task (proper .some) i 1);
@@ -97,14 +98,14 @@ module _ {task : Task} (proper : Proper task) {due : Bool} {t start left i sum :
       }
 
 module _ {s : List ℕ} {first frames t : ℕ} (stands : Stands s first frames t) {due : Bool} {start left i sum left′ : ℕ}
-    (so-far : Counting (task-of s first frames) due t start left i sum) (x : Record) where
+    (so-far : Summing (task-of s first frames) due t start left i sum) (x : Record) where
   -- every P lessens the time left
-  pub counting-less : x ≡ record-of s (first + i) → left′ ≡ left - x .p → 0 < left → left′ < left
+  pub summing-less : x ≡ record-of s (first + i) → left′ ≡ left - x .p → 0 < left → left′ < left
   unfolding task-of
-  counting-less read leaves some =
+  summing-less read leaves some =
       omega (arith, leaves, ap (λ (y : Record). y .p) read, stands .proper .moves i (so-far .inside))
 
-  pub counting-on : {i′ gain : ℕ} (room : ℕ) → Turn s first frames due left i gain left′ i′ x room
-      → Counting (task-of s first frames) due t start left′ i′ (sum + gain)
-  counting-on room turn = step-on (stands .proper) so-far
-      (counting-less (turn .record-is) (turn .left-is) (turn .some)) (step turn)
+  pub summing-on : {i′ gain : ℕ} (room : ℕ) → Summing-turn s first frames due left i gain left′ i′ x room
+      → Summing (task-of s first frames) due t start left′ i′ (sum + gain)
+  summing-on room turn = step-on (stands .proper) so-far
+      (summing-less (turn .record-is) (turn .left-is) (turn .some)) (step turn)

@@ -9,20 +9,20 @@ use Rattle.model.specs.Task.{Task}
 use Rattle.model.specs.Demand.{counted}
 use Rattle.model.proofs.StartLaws.{lowest-is}
 use Rattle.sums.specs.declared.peak.Peak.{Peak}
-use Rattle.sums.specs.Sized.{longest, reach-by, Counted, Raised, Greatest}
+use Rattle.sums.specs.Sized.{largest, reach-by, Summed, Raised, Greatest}
 
 -- the starts below `start` are tried, and this is their peak
 pub record Trying (task : Task) (due : Bool) (t : ℕ) (peak : Peak) (start : ℕ) : Type 0 where
   pub within : start ≤ task .count
   pub peaked : Peaked (counted task (reach-by due task) t) start (peak .sum) (peak .start)
-  pub small : peak .sum ≤ longest * t
+  pub small : peak .sum ≤ largest * t
 
 pub trying-none : (task : Task) (due : Bool) (t : ℕ) → Trying task due t (record { sum = 0; start = 0 }) 0
 trying-none task due t =
     record { within = omega arith; peaked = peaked-none (counted task (reach-by due task) t); small = omega arith }
 
 module _ {task : Task} {due : Bool} {t : ℕ} {peak : Peak} {start : ℕ} (trying : Trying task due t peak start) where
-  pub trying-on : {peak′ : Peak} (sum : ℕ) → start < task .count → Counted task due t start sum
+  pub trying-on : {peak′ : Peak} (sum : ℕ) → start < task .count → Summed task due t start sum
       → Raised peak sum start peak′
       → Trying task due t peak′ (start + 1)
   trying-on sum more one raised =

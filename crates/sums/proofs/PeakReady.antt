@@ -15,7 +15,7 @@ use Rattle.table.specs.declared.frame.Place.{Place}
 use Rattle.table.specs.declared.plan.Plan.{Plan}
 use Rattle.table.proofs.ReadyLaws.{place-task, ready-here, ready-proper}
 use Rattle.sums.specs.declared.peak.Peak.{Peak}
-use Rattle.sums.specs.Sized.{far, reach-by, peak-by, start-by, Stands, Counted, Greatest, Peaks}
+use Rattle.sums.specs.Sized.{far, reach-by, peak-by, start-by, Stands, Summed, Greatest, Peaks}
 
 -- the greatest sum by each condition is the document's demand, or its work
 peak-by-is : (due : Bool) (task : Task) (t : ℕ) → most task (reach-by due task) t ≡ peak-by due task t
@@ -42,9 +42,9 @@ module _ {s : List ℕ} {k : ℕ} {place : Place} (stands : Stands-at s k place)
   task-peaks {r} most-of =
       greatest-peaks (subst (λ (task : Task). Greatest task due t r) (sym (place-task stands)) most-of)
 
-  pub task-counted : {start r : ℕ} → Counted (task-of s (place .first) (place .frames)) due t start r
-      → Counted (table-of s .task k) due t start r
-  task-counted {start} {r} = subst (λ (task : Task). Counted task due t start r) (sym (place-task stands))
+  pub task-counted : {start r : ℕ} → Summed (task-of s (place .first) (place .frames)) due t start r
+      → Summed (table-of s .task k) due t start r
+  task-counted {start} {r} = subst (λ (task : Task). Summed task due t start r) (sym (place-task stands))
 
 module _ {s : List ℕ} {plan : Plan} (ready : Ready s plan) (bytes : Bytes s) (k : ℕ) (inside : k < plan .tasks) where
   proper : Proper (table-of s .task k)

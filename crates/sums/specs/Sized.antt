@@ -19,16 +19,16 @@ abbrev pub ceiling : ℕ
 ceiling = 1048576
 
 -- the greatest E, and so the greatest D and P
-abbrev pub longest : ℕ
-longest = 65535
+abbrev pub largest : ℕ
+largest = 65535
 
 -- how far a cyclic sum is counted: to a question's t, and one D or P more
 abbrev pub far : ℕ
-far = ceiling + longest
+far = ceiling + largest
 
 -- the most that one task asks in t ticks, and that all tasks ask, sixteen at the most: the greatest E in each tick
 abbrev pub bound : ℕ → ℕ
-bound t = longest * t
+bound t = largest * t
 
 abbrev pub bound-all : ℕ → ℕ
 bound-all t = 16 * bound t
@@ -57,9 +57,9 @@ pub record Stands (s : List ℕ) (first frames t : ℕ) : Type 0 where
 
 -- ---- what is ensured
 
-pub record Counted (task : Task) (due : Bool) (t start r : ℕ) : Type 0 where
+pub record Summed (task : Task) (due : Bool) (t start r : ℕ) : Type 0 where
   pub is : r ≡ counted task (reach-by due task) t start
-  pub at-most : r ≤ longest * t
+  pub at-most : r ≤ largest * t
 
 pub record Raised (peak : Peak) (sum start : ℕ) (r : Peak) : Type 0 where
   pub sum-is : r .sum ≡ max (peak .sum) sum
@@ -70,7 +70,7 @@ pub record Greatest (task : Task) (due : Bool) (t : ℕ) (r : Peak) : Type 0 whe
   pub sum-is : r .sum ≡ most task (reach-by due task) t
   pub start-is : r .start ≡ lowest task (reach-by due task) t
   pub inside : r .start < task .count
-  pub at-most : r .sum ≤ longest * t
+  pub at-most : r .sum ≤ largest * t
 
 -- the demand of a task at t, or its work in t, and where it starts
 pub record Peaks (task : Task) (due : Bool) (t : ℕ) (r : Peak) : Type 0 where

@@ -5,7 +5,7 @@ ghost use Prim.Native.Nat.{_+_, _-_, _%_, _<_, _≤_};
 ghost use lib.Dec.{leb};
 ghost use Rattle.laws.specs.Sums.{only};
 ghost use Rattle.table.specs.TableOf.{task-of};
-ghost use Rattle.sums.specs.Sized.{Stands, Counted};
+ghost use Rattle.sums.specs.Sized.{Stands, Summed};
 
 // What a frame must have room for besides its offset: its D for demand; for work one tick.
 fn reach(due: bool, d: u16) -> u64
@@ -39,7 +39,7 @@ pub fn following(frames: usize, i: usize) -> usize
 // The sum of E of the frames that fit in t, of the task of `frames` records from record `first` on, from frame `start`.
 pub fn count_from(s: &[u8], first: usize, frames: usize, start: usize, t: u64, due: bool) -> u64
     requires { ⌜ Stands (now s) first frames t × (start < frames) ⌝ }
-    ensures { λ r. ⌜ Counted (task-of (now (s .entry)) first frames) due t start r ⌝ }
+    ensures { λ r. ⌜ Summed (task-of (now (s .entry)) first frames) due t start r ⌝ }
 {
     let mut left = t;
     let mut i = start;

@@ -5,7 +5,7 @@ ghost use Prim.Native.Nat.{_<_, _≤_};
 ghost use Rattle.model.specs.Request.{Has-frame};
 ghost use Rattle.table.specs.Ready.{Ready};
 ghost use Rattle.table.specs.TableOf.{table-of};
-ghost use Rattle.sums.specs.Sized.{Counted, Peaks, Total, ceiling, far};
+ghost use Rattle.sums.specs.Sized.{Summed, Peaks, Total, ceiling, far};
 
 // The peak of task k.
 pub fn peak_of(s: &[u8], plan: Plan, k: usize, t: u64, due: bool) -> Peak
@@ -19,7 +19,7 @@ pub fn peak_of(s: &[u8], plan: Plan, k: usize, t: u64, due: bool) -> Peak
 // The cyclic sum of task k from frame `start`.
 pub fn count_of(s: &[u8], plan: Plan, k: usize, start: usize, t: u64, due: bool) -> u64
     requires { ⌜ Ready (now s) plan × Has-frame (table-of (now s)) k start × (t ≤ far) ⌝ }
-    ensures { λ r. ⌜ Counted (table-of (now (s .entry)) .task k) due t start r ⌝ }
+    ensures { λ r. ⌜ Summed (table-of (now (s .entry)) .task k) due t start r ⌝ }
 {
     let place = table::frame::place_of(s, plan, k);
     crate::cyclic::count_from(s, place.first, place.frames, start, t, due)

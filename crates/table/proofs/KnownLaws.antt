@@ -8,7 +8,7 @@ use native.Mathlib.Omega.{arith}
 use Rattle.laws.proofs.Cases.{lt-or-le}
 use Rattle.table.specs.declared.rules.SoFar.{SoFar}
 use Rattle.table.specs.Bytes.{record-of}
-use Rattle.table.specs.TableRules.{none-yet}
+use Rattle.table.specs.TableRules.{nothing-known}
 use Rattle.table.specs.WellFormed.{Same-task, In-run, Kind-right, Even}
 
 -- record j is a frame of the last task
@@ -25,7 +25,7 @@ pub record Known (s : List ℕ) (i : ℕ) (b : SoFar) : Type 0 where
   pub last : (j : ℕ) → j < i → i ≤ j + b .frames → Last-task s b j
   pub earlier : (j : ℕ) → j + b .frames < i → record-of s j .task + 1 < b .tasks
 
-pub known-start : (s : List ℕ) → Known s 0 none-yet
+pub known-start : (s : List ℕ) → Known s 0 nothing-known
 known-start s =
     record {
       within = omega arith;

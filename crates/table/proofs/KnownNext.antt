@@ -11,8 +11,8 @@ use Rattle.laws.proofs.Cases.{lt-or-le}
 use Rattle.table.specs.declared.record.Record.{Record}
 use Rattle.table.specs.declared.rules.SoFar.{SoFar}
 use Rattle.table.specs.Bytes.{record-of}
-use Rattle.table.specs.TableRules.{begins, after-of}
-use Rattle.table.specs.WellFormed.{Good}
+use Rattle.table.specs.TableRules.{begins, table-after}
+use Rattle.table.specs.WellFormed.{Good-record}
 use Rattle.table.proofs.KnownLaws.{Last-task, Known, below, next-task, on-kind, on-p}
 
 -- the two states that may follow
@@ -34,7 +34,7 @@ module _ {s : List ℕ} {i : ℕ} {b : SoFar} (known : Known s i b) where
         earlier = λ j far. omega (arith, below known j (omega arith));
       }
 
-  module _ (good : Good s i) (on : record-of s i .task + 1 ≡ b .tasks) where
+  module _ (good : Good-record s i) (on : record-of s i .task + 1 ≡ b .tasks) where
     last-here : Last-task s (gone-on b) i
     last-here =
         let kind = on-kind known on (good .kind-right) in
@@ -59,10 +59,10 @@ module _ {s : List ℕ} {i : ℕ} {b : SoFar} (known : Known s i b) where
           earlier = λ j far. known .earlier j (omega arith);
         }
 
-  pub known-next : Good s i → Known s (i + 1) (after-of b (record-of s i))
+  pub known-next : Good-record s i → Known s (i + 1) (table-after b (record-of s i))
   known-next good = which (begins b (record-of s i)) refl
     where
-      which : (t : Bool) → begins b (record-of s i) ≡ t → Known s (i + 1) (after-of b (record-of s i))
+      which : (t : Bool) → begins b (record-of s i) ≡ t → Known s (i + 1) (table-after b (record-of s i))
       which true e = rw e (known-begins (eqb-true _ _ e))
       which false e =
           elim (next-task known (good .in-run)) [

@@ -13,7 +13,7 @@ use Rattle.laws.proofs.TallyLaws.{Up-to, tally-most, tally-place}
 use Rattle.table.specs.Bytes.{records, record-of}
 use Rattle.table.specs.WellFormed.{WellFormed}
 use Rattle.table.specs.TableOf.{records-before, table-of}
-use Rattle.table.proofs.TableLengthLaws.{right-some}
+use Rattle.table.proofs.TableLengthLaws.{table-length-some}
 
 -- record i is of a task below k
 abbrev is-below : List ℕ → ℕ → ℕ → Bool
@@ -75,7 +75,7 @@ module _ {s : List ℕ} (well : WellFormed s) where
 
   -- "16 tasks"
   pub last-record : records s - 1 < records s
-  last-record = omega (arith, right-some (well .long))
+  last-record = omega (arith, table-length-some (well .long))
 
   pub few-tasks : table-of s .tasks ≤ 16
   few-tasks = omega (arith, well .good (records s - 1) last-record .in-run .low)

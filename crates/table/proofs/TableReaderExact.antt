@@ -14,25 +14,25 @@ use Rattle.table.specs.declared.reader.Refusal.{Refusal}
 use Rattle.table.specs.declared.reader.Reading.{Reading}
 use Rattle.table.specs.declared.reader.Reading.the-variants.{Table, Refused}
 use Rattle.table.specs.Bytes.{size, most-records, records}
-use Rattle.table.specs.TableReader.{reader-of, reading-in, reading-of}
+use Rattle.table.specs.TableReader.{table-reader, reading-in, reading-of}
 use Rattle.table.specs.WellFormed.{WellFormed}
-use Rattle.table.specs.TableRefusals.{Refused-with}
+use Rattle.table.specs.TableRefusals.{Table-refused}
 use Rattle.table.specs.TableOf.{table-of}
-use Rattle.table.proofs.TableLengthLaws.{right-some, right-few}
+use Rattle.table.proofs.TableLengthLaws.{table-length-some, table-length-few}
 use Rattle.table.proofs.KnownLaws.{before-it}
 use Rattle.table.proofs.Rising.{few-tasks}
-use Rattle.table.proofs.ReadLaws.{reading-stopped, reading-whole, rules-of}
+use Rattle.table.proofs.ReadLaws.{reading-stopped, reading-whole, reading-rules}
 
 -- what a reading says of the bytes
 abbrev Told : List ℕ → Reading → Type 0
 Told s (Table t) = WellFormed s
-Told s (Refused r) = Refused-with s (r .number) (r .index)
+Told s (Refused r) = Table-refused s (r .number) (r .index)
 
 told : (s : List ℕ) → Told s (reading-of s)
 unfolding reading-of
-told s = from (read-all (reader-of s)) (said (rules-of s))
+told s = from (read-all (table-reader s)) (said (reading-rules s))
   where
-    from : (x : Read SoFar) → Said (rules-of s) x → Told s (reading-in (records s) x)
+    from : (x : Read SoFar) → Said (reading-rules s) x → Told s (reading-in (records s) x)
     from (whole b) faultless = record { long = faultless .long; good = faultless .good }
     from (stopped number index) faulty = faulty
 
@@ -44,17 +44,17 @@ read-good s t is = rw is at (told s)
 pub good-read : (s : List ℕ) → WellFormed s →
     reading-of s ≡ Table (record { records = records s; tasks = table-of s .tasks })
 good-read s well =
-    let end = faultless-read (rules-of s) (record { long = well .long; good = well .good }) in
-    sym (reading-whole s (end .is) refl (before-it (end .known) (right-some (well .long)) .task))
+    let end = faultless-read (reading-rules s) (record { long = well .long; good = well .good }) in
+    sym (reading-whole s (end .is) refl (before-it (end .known) (table-length-some (well .long)) .task))
 
 -- ---- a refusal is given exactly where document 01 gives it
 
-pub read-refused : (s : List ℕ) (r : Refusal) → reading-of s ≡ Refused r → Refused-with s (r .number) (r .index)
+pub read-refused : (s : List ℕ) (r : Refusal) → reading-of s ≡ Refused r → Table-refused s (r .number) (r .index)
 read-refused s r is = rw is at (told s)
 
-pub refused-read : (s : List ℕ) (number index : ℕ) → Refused-with s number index →
+pub refused-read : (s : List ℕ) (number index : ℕ) → Table-refused s number index →
     reading-of s ≡ Refused (record { number = number; index = index })
-refused-read s number index bad = sym (reading-stopped s (faulty-read (rules-of s) number index bad))
+refused-read s number index bad = sym (reading-stopped s (faulty-read (reading-rules s) number index bad))
 
 -- ---- what a caller that has read a table knows
 
@@ -76,6 +76,6 @@ shaped s t read =
       records-are = records-are;
       tasks-are = tasks-are;
       inside = omega arith;
-      few-records = omega (arith, right-few (well .long));
+      few-records = omega (arith, table-length-few (well .long));
       few-tasks = omega (arith, few-tasks well);
     }

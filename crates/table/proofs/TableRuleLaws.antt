@@ -14,8 +14,8 @@ use Rattle.table.specs.declared.record.Record.{Record}
 use Rattle.table.specs.declared.rules.SoFar.{SoFar}
 use Rattle.table.specs.Bytes.{record-of}
 use Rattle.table.specs.TableRules.{off-run, bad-kind, too-many, has-zero, uneven}
-use Rattle.table.specs.WellFormed.{In-run, Kind-right, Has-room, Not-zero, Even, rules, Good}
-use Rattle.table.specs.TableRefusals.{Breaks}
+use Rattle.table.specs.WellFormed.{In-run, Kind-right, Has-room, Not-zero, Even, table-rules, Good-record}
+use Rattle.table.specs.TableRefusals.{Record-breaks}
 use Rattle.table.proofs.KnownLaws.{Known, in-run-of, next-task, shared, on-before, on-first, on-kind, on-p}
 
 -- what is left where the tests of the rules 3 to 6 are false, of record x after what is known, b
@@ -114,8 +114,8 @@ module _ {s : List ℕ} {i : ℕ} {b : SoFar} (known : Known s i b) where
 
   -- ---- all of them: a test may lean on the rules above its own
 
-  pub rules-caught : Caught rules (b, record-of s i) (s, i)
-  rules-caught =
+  pub table-rules-caught : Caught table-rules (b, record-of s i) (s, i)
+  table-rules-caught =
       rung catches-2 (λ in-run.
       rung (catches-3 in-run) (λ kind-right.
       rung (catches-4 in-run) (λ has-room.
@@ -124,12 +124,12 @@ module _ {s : List ℕ} {i : ℕ} {b : SoFar} (known : Known s i b) where
 
 -- ---- a good record keeps them, by name
 
-pub good-keeps : {s : List ℕ} {j : ℕ} → Good s j → Keeps rules (s, j)
-good-keeps good = (good .in-run, (good .kind-right, (good .has-room, (good .not-zero, (good .even, tt)))))
+pub good-record-keeps : {s : List ℕ} {j : ℕ} → Good-record s j → Keeps table-rules (s, j)
+good-record-keeps good = (good .in-run, (good .kind-right, (good .has-room, (good .not-zero, (good .even, tt)))))
 
-pub keeps-good : (s : List ℕ) (j : ℕ) → Keeps rules (s, j) → Good s j
-keeps-good s j (in-run, (kind-right, (has-room, (not-zero, (even, all))))) =
+pub keeps-good-record : (s : List ℕ) (j : ℕ) → Keeps table-rules (s, j) → Good-record s j
+keeps-good-record s j (in-run, (kind-right, (has-room, (not-zero, (even, all))))) =
     record { in-run = in-run; kind-right = kind-right; has-room = has-room; not-zero = not-zero; even = even }
 
-pub breaks-some : (s : List ℕ) (j : ℕ) → Breaks s j 0 → ⊥
-breaks-some s j breaks = false≢true (breaks-number (s, j) (ltb 0) rules refl 0 0 breaks)
+pub record-breaks-some : (s : List ℕ) (j : ℕ) → Record-breaks s j 0 → ⊥
+record-breaks-some s j breaks = false≢true (breaks-number (s, j) (ltb 0) table-rules refl 0 0 breaks)

@@ -7,7 +7,7 @@ use lib.ListN.{getD}
 use native.Mathlib.Omega.{arith}
 use Rattle.model.specs.Task.{Proper, ProperTable}
 use Rattle.table.specs.Bytes.{Bytes, size, records, half, record-of}
-use Rattle.table.specs.WellFormed.{Good, WellFormed}
+use Rattle.table.specs.WellFormed.{Good-record, WellFormed}
 use Rattle.table.specs.TableOf.{records-before, records-of, task-of, table-of}
 use Rattle.table.proofs.Rising.{few-tasks}
 use Rattle.table.proofs.Runs.{run-within, run-some, run-few}
@@ -51,7 +51,7 @@ module _ (s : List ℕ) (bytes : (i : ℕ) → getD s i 0 < 256) where
   p-most i = half-most (i * size + 6)
 
   -- a task whose frames are good records
-  task-proper : (first count : ℕ) → 1 ≤ count → count ≤ 16 → ((i : ℕ) → i < count → Good s (first + i)) →
+  task-proper : (first count : ℕ) → 1 ≤ count → count ≤ 16 → ((i : ℕ) → i < count → Good-record s (first + i)) →
       Proper (task-of s first count)
   unfolding task-of
   task-proper first count some few good =

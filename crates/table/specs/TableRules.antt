@@ -8,8 +8,8 @@ use Rattle.table.specs.declared.record.Record.{Record}
 use Rattle.table.specs.declared.rules.SoFar.{SoFar}
 
 -- before the first record there is no task
-abbrev pub none-yet : SoFar
-none-yet = record { tasks = 0; frames = 0; kind = 0; p = 0 }
+abbrev pub nothing-known : SoFar
+nothing-known = record { tasks = 0; frames = 0; kind = 0; p = 0 }
 
 -- "the first is task 0 and each next task is one more": the record begins the next task
 abbrev pub begins : SoFar → Record → Bool
@@ -41,8 +41,8 @@ abbrev pub uneven : SoFar → Record → Bool
 uneven b x = eqb (x .kind) 2 && (not (eqb (x .d) (x .p)) || (goes-on b x && not (eqb (x .p) (b .p))))
 
 -- what is known after a good record
-abbrev pub after-of : SoFar → Record → SoFar
-after-of b x =
+abbrev pub table-after : SoFar → Record → SoFar
+table-after b x =
     cond (begins b x)
     (record { tasks = x .task + 1; frames = 1; kind = x .kind; p = x .p })
     (record { tasks = b .tasks; frames = b .frames + 1; kind = b .kind; p = b .p })

@@ -17,7 +17,7 @@ pub record Same-task (s : List ℕ) (i j : ℕ) : Type 0 where
   pub same : record-of s i .task ≡ record-of s j .task
 
 -- rule 1: the length
-pub record Length-right (n : ℕ) : Type 0 where
+pub record Table-length-right (n : ℕ) : Type 0 where
   pub some : 1 ≤ n
   pub few : n ≤ most-records * size
   pub whole : n % size ≡ 0
@@ -53,8 +53,8 @@ pub record Even (s : List ℕ) (j : ℕ) : Type 0 where
 
 -- "in each record 2, 3, 4, 5, 6": each rule's number; its test, of record x after what is known, b; and what it says
 -- of record j of the bytes s
-abbrev pub rules : List (Rule (SoFar × Record) (List ℕ × ℕ))
-rules =
+abbrev pub table-rules : List (Rule (SoFar × Record) (List ℕ × ℕ))
+table-rules =
     rule 2 (λ (b, x). off-run b x) (λ (s, j). In-run s j)
     ∷ rule 3 (λ (b, x). bad-kind b x) (λ (s, j). Kind-right s j)
     ∷ rule 4 (λ (b, x). too-many b x) (λ (s, j). Has-room s j)
@@ -63,7 +63,7 @@ rules =
     ∷ []
 
 -- record j keeps them all
-pub record Good (s : List ℕ) (j : ℕ) : Type 0 where
+pub record Good-record (s : List ℕ) (j : ℕ) : Type 0 where
   pub in-run : In-run s j
   pub kind-right : Kind-right s j
   pub has-room : Has-room s j
@@ -71,5 +71,5 @@ pub record Good (s : List ℕ) (j : ℕ) : Type 0 where
   pub even : Even s j
 
 pub record WellFormed (s : List ℕ) : Type 0 where
-  pub long : Length-right (length s)
-  pub good : (j : ℕ) → j < records s → Good s j
+  pub long : Table-length-right (length s)
+  pub good : (j : ℕ) → j < records s → Good-record s j

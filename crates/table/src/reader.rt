@@ -2,7 +2,7 @@
 use crate::record::SIZE;
 use crate::rules::SoFar;
 ghost use mathlib.Core.Path.{_≡_};
-ghost use Rattle.table.specs.TableReader.{bad-length, reading-of, refusal-in};
+ghost use Rattle.table.specs.TableReader.{bad-table-length, reading-of, table-refusal};
 
 // The most records of a table.
 pub const MOST_RECORDS: usize = 64;
@@ -25,8 +25,8 @@ pub enum Reading {
     Refused(Refusal),
 }
 
-fn is_bad_length(n: usize) -> bool
-    ensures { λ r. ⌜ r ≡ bad-length n ⌝ }
+fn is_bad_table_length(n: usize) -> bool
+    ensures { λ r. ⌜ r ≡ bad-table-length n ⌝ }
 {
     (n == 0) | (MOST_RECORDS * SIZE < n) | (n % SIZE != 0)
 }
@@ -36,7 +36,7 @@ pub fn read_table(s: &[u8]) -> Reading
     ensures { λ r. ⌜ r ≡ reading-of (now (s .entry)) ⌝ }
 {
     let len = s.len();
-    if is_bad_length(len) {
+    if is_bad_table_length(len) {
         return Reading::Refused(Refusal {
             number: 1,
             index: 0,
@@ -52,14 +52,14 @@ pub fn read_table(s: &[u8]) -> Reading
     let mut i: usize = 0;
     while i < n {
         let x = crate::record::record_at(s, i);
-        let f = crate::rules::fault(b, x);
+        let f = crate::rules::table_fault(b, x);
         if f != 0 {
             return Reading::Refused(Refusal {
                 number: f,
                 index: i,
             });
         }
-        b = crate::rules::after(b, x);
+        b = crate::rules::table_after(b, x);
         i += 1;
     }
     let tasks = b.tasks as usize;
@@ -67,8 +67,8 @@ pub fn read_table(s: &[u8]) -> Reading
 }
 
 // The refusal of a reading that has one: what a caller passes on after `let Reading::Table(..) = r else`.
-pub fn refusal_of(r: Reading) -> Refusal
-    ensures { λ no. ⌜ no ≡ refusal-in r ⌝ }
+pub fn table_refusal(r: Reading) -> Refusal
+    ensures { λ no. ⌜ no ≡ table-refusal r ⌝ }
 {
     match r {
         Reading::Refused(no) => no,

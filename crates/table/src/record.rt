@@ -15,7 +15,7 @@ pub struct Record {
     pub p: u16,
 }
 
-fn wide(x: u8) -> u16
+fn wide_byte(x: u8) -> u16
     ensures { λ r. ⌜ (r ≡ x) × (r < 256) ⌝ }
 {
     x as u16
@@ -26,7 +26,7 @@ pub fn half_at(s: &[u8], at: usize) -> u16
     requires { ⌜ at + 1 < length (now s) ⌝ }
     ensures { λ r. ⌜ r ≡ half (now (s .entry)) at ⌝ }
 {
-    wide(s[at]) + 256 * wide(s[at + 1])
+    wide_byte(s[at]) + 256 * wide_byte(s[at + 1])
 }
 
 pub fn record_at(s: &[u8], i: usize) -> Record

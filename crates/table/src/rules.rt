@@ -3,8 +3,8 @@ use crate::record::Record;
 ghost use mathlib.Core.Path.{_≡_};
 ghost use mathlib.Core.Bool.{cond};
 ghost use Prim.Native.Nat.{_<_};
-ghost use Rattle.table.specs.TableReader.{fault-of};
-ghost use Rattle.table.specs.TableRules.{after-of};
+ghost use Rattle.table.specs.TableReader.{table-fault};
+ghost use Rattle.table.specs.TableRules.{table-after};
 
 // What the records so far say: how many tasks, and of the last one its frames so far, its kind and its first P.
 pub struct SoFar {
@@ -33,8 +33,8 @@ fn first_of(r2: bool, r3: bool, r4: bool, r5: bool, r6: bool) -> u8
     }
 }
 
-pub fn fault(b: SoFar, x: Record) -> u8
-    ensures { λ r. ⌜ r ≡ fault-of b x ⌝ }
+pub fn table_fault(b: SoFar, x: Record) -> u8
+    ensures { λ r. ⌜ r ≡ table-fault b x ⌝ }
 {
     let begins = x.task as u16 == b.tasks;
     let more = x.task as u16 + 1 == b.tasks;
@@ -46,15 +46,15 @@ pub fn fault(b: SoFar, x: Record) -> u8
     first_of(r2, r3, r4, r5, r6)
 }
 
-fn choose(first: bool, a: SoFar, b: SoFar) -> SoFar
+fn choose_known(first: bool, a: SoFar, b: SoFar) -> SoFar
     ensures { λ r. ⌜ r ≡ cond first a b ⌝ }
 {
     if first { a } else { b }
 }
 
-pub fn after(b: SoFar, x: Record) -> SoFar
+pub fn table_after(b: SoFar, x: Record) -> SoFar
     requires { ⌜ b .frames < 1000 ⌝ }
-    ensures { λ r. ⌜ r ≡ after-of b x ⌝ }
+    ensures { λ r. ⌜ r ≡ table-after b x ⌝ }
 {
     let begins = x.task as u16 == b.tasks;
     let next = SoFar {
@@ -69,5 +69,5 @@ pub fn after(b: SoFar, x: Record) -> SoFar
         kind: b.kind,
         p: b.p,
     };
-    choose(begins, next, same)
+    choose_known(begins, next, same)
 }

@@ -20,11 +20,11 @@ abbrev μ-loop : tie.MeasureT-loop
 loop-holds : tie.Need-loop-holds Inv-loop μ-loop
 loop-holds c = tried-start _ _
 
-better-requires : tie.Need-better-requires Inv-loop μ-loop
-better-requires c κs = (search needs, c .before .loop .inv)
+better-request-requires : tie.Need-better-request-requires Inv-loop μ-loop
+better-request-requires c κs = (search needs, c .before .loop .inv)
 
 loop-again : tie.Need-loop-again Inv-loop μ-loop
-loop-again c = c .better .ensures
+loop-again c = c .better-request .ensures
 
 returns : tie.Need-returns Inv-loop μ-loop
 returns c = tried-end (c .before .loop .inv) (search needs) refl
@@ -36,7 +36,7 @@ next-of-spec =
     Inv-loop
     μ-loop
     loop-holds
-    better-requires
+    better-request-requires
     (λ c. search needs)
     (λ c. search needs)
     loop-again

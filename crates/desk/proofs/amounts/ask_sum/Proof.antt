@@ -13,7 +13,7 @@ unfolding flat-amount
 returns c =
     let told = c .before in
     ap flat-amount (passed-on _ _ (told .before .before .read-table .ensures) (told .enum-told .given .1)
-    (c .refusal-of .ensures))
+    (c .table-refusal .ensures))
 
 sum-in-requires : tie.Need-sum-in-requires
 sum-in-requires c κs = sym (c .before .before .before .read-table .ensures) ∙ c .before .reading .given .1

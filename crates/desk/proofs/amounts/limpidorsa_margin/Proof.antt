@@ -14,7 +14,7 @@ unfolding margin-asked flat-margin
 returns c =
     let told = c .before in
     ap flat-margin (passed-on _ _ (told .before .before .read-table .ensures) (told .enum-told .given .1)
-    (c .refusal-of .ensures))
+    (c .table-refusal .ensures))
 
 margin-in-requires : tie.Need-margin-in-requires
 margin-in-requires c κs = sym (c .before .before .before .read-table .ensures) ∙ c .before .reading .given .1

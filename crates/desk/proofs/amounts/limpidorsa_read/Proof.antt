@@ -14,7 +14,7 @@ unfolding read-asked flat-shape
 returns c =
     let told = c .before in
     ap flat-shape (passed-on _ _ (told .before .before .read-table .ensures) (told .enum-told .given .1)
-    (c .refusal-of .ensures))
+    (c .table-refusal .ensures))
 
 returns-2 : tie.Need-returns-2
 unfolding flat-shape

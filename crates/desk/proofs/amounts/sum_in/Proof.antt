@@ -9,7 +9,7 @@ use Rattle.table.proofs.ReadyLaws.{ready-read}
 use Rattle.sums.specs.Sized.{peak-by}
 use Rattle.desk.specs.declared.answers.Amount.{Amount}
 use Rattle.desk.specs.Flat.{flat-amount}
-use Rattle.desk.proofs.AskLaws.{plan-room, plan-tasks, no-such-task, task-too-far, task-answered}
+use Rattle.desk.proofs.AskLaws.{plan-room, plan-tasks, task-missing, task-too-far, task-answered}
 use Rattle.desk.proofs.amounts.sum_in.Statement.{statement}
 use Rattle.desk.proofs.amounts.sum_in.Tie as tie
 
@@ -23,7 +23,7 @@ unfolding flat-amount
 returns c =
     let entry = c .before .before .before in
     ap refuses (c .refuse .ensures)
-    ∙ ap flat-amount (no-such-task _ _ (entry .pre) (peak-by (entry .args .due)) (entry .args .task) _ (search needs))
+    ∙ ap flat-amount (task-missing _ _ (entry .pre) (peak-by (entry .args .due)) (entry .args .task) _ (search needs))
 
 -- t is too far
 returns-2 : tie.Need-returns-2

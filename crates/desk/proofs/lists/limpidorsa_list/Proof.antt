@@ -17,7 +17,7 @@ unfolding list-asked flat-listed
 returns c =
     let told = c .before in
     ap flat-listed (passed-on _ _ (told .before .before .read-table .ensures) (told .enum-told .given .1)
-    (c .refusal-of .ensures))
+    (c .table-refusal .ensures))
 
 make-plan-requires : tie.Need-make-plan-requires
 make-plan-requires c κs =
@@ -40,7 +40,7 @@ returns-2 c =
     let read = sym (is-table .before .before .read-table .ensures) ∙ is-table .reading .given .1 in
     ap flat-listed
     (list-refused _ _ _ read (at-check .check-list .ensures) counts (told .enum-told2 .given .1)
-    (c .refusal-of2 .ensures))
+    (c .list-refusal .ensures))
 
 returns-3 : tie.Need-returns-3
 unfolding list-asked flat-listed

@@ -16,7 +16,8 @@ returns c =
     let taken = c .before .before in
     let told = taken .before in
     load-refused (c .flat-bench .ensures ∙ ap flat-bench (c .before .empty .ensures))
-    (passed-on _ _ (told .before .before .read-table .ensures) (told .enum-told .given .1) (taken .refusal-of .ensures))
+    (passed-on _ _ (told .before .before .read-table .ensures) (told .enum-told .given .1)
+    (taken .table-refusal .ensures))
 
 load-in-requires : tie.Need-load-in-requires
 load-in-requires c κs = sym (c .before .before .before .read-table .ensures) ∙ c .before .reading .given .1

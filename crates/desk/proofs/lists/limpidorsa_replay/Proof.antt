@@ -14,7 +14,7 @@ unfolding replay-asked flat-ending
 returns c =
     let told = c .before in
     ap flat-ending (passed-on _ _ (told .before .before .read-table .ensures) (told .enum-told .given .1)
-    (c .refusal-of .ensures))
+    (c .table-refusal .ensures))
 
 replay-in-requires : tie.Need-replay-in-requires
 replay-in-requires c κs = sym (c .before .before .before .read-table .ensures) ∙ c .before .reading .given .1

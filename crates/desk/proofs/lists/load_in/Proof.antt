@@ -25,7 +25,7 @@ returns c =
     let start = at-plan .before .before .before in
     load-refused (c .flat-bench .ensures ∙ ap flat-bench (c .before .empty .ensures))
     (list-refused _ _ _ (start .pre) (at-check .check-list .ensures) loads (told .enum-told .given .1)
-    (taken .refusal-of .ensures))
+    (taken .list-refusal .ensures))
 
 load-requires : tie.Need-load-requires
 load-requires c κs =

@@ -27,7 +27,7 @@ returns c =
     let start = at-plan .before .before .before in
     ap flat-ending
     (list-refused _ _ _ (start .pre) (at-check .check-list .ensures) replays (told .enum-told .given .1)
-    (c .refusal-of .ensures))
+    (c .list-refusal .ensures))
 
 load-requires : tie.Need-load-requires
 load-requires c κs =

@@ -14,7 +14,7 @@ unfolding response-asked flat-response
 returns c =
     let told = c .before in
     ap flat-response (passed-on _ _ (told .before .before .read-table .ensures) (told .enum-told .given .1)
-    (c .refusal-of .ensures))
+    (c .table-refusal .ensures))
 
 respond-in-requires : tie.Need-respond-in-requires
 respond-in-requires c κs = sym (c .before .before .before .read-table .ensures) ∙ c .before .reading .given .1

@@ -10,7 +10,7 @@ use Rattle.desk.specs.FlatVerdict.{flat-response}
 use Rattle.desk.specs.Laid.{laid-response}
 use Rattle.desk.proofs.AskLaws.{plan-room}
 use Rattle.desk.proofs.LaidLaws.{response-laid}
-use Rattle.desk.proofs.ResponseWays.{no-such-frame, has-frame, some-above, response-answered}
+use Rattle.desk.proofs.ResponseWays.{response-no-frame, has-frame, some-above, response-answered}
 use Rattle.desk.proofs.responses.respond_in.Statement.{statement}
 use Rattle.desk.proofs.responses.respond_in.Tie as tie
 
@@ -32,7 +32,7 @@ returns c =
     let looked = c .before .before in
     let entry = asked looked in
     ap refuses (c .refuse .ensures)
-    ∙ ap flat-response (no-such-frame _ _ (entry .pre) (entry .args .task) (entry .args .frame)
+    ∙ ap flat-response (response-no-frame _ _ (entry .pre) (entry .args .task) (entry .args .frame)
     (looked .is-missing .ensures) (c .before .if1 .taken))
 
 -- D above P

@@ -3,22 +3,22 @@
 -- Assumes nothing.
 use borrow.Author.Needs.{needs}
 use Rattle.model.specs.Replay.{last-tick}
-use Rattle.desk.proofs.FlatTickLaws.{tick-stopped, tick-past, tick-running}
+use Rattle.desk.proofs.FlatTickLaws.{flat-tick-stopped, flat-tick-past, flat-tick-running}
 use Rattle.desk.proofs.ticks.limpidorsa_tick.Statement.{statement}
 use Rattle.desk.proofs.ticks.limpidorsa_tick.Tie as tie
 
 returns : tie.Need-returns
-returns c = tick-stopped _ (c .if1 .taken)
+returns c = flat-tick-stopped _ (c .if1 .taken)
 
 returns-2 : tie.Need-returns-2
 unfolding last-tick
-returns-2 c = tick-past _ (search needs) (c .if2 .taken)
+returns-2 c = flat-tick-past _ (search needs) (c .if2 .taken)
 
 returns-3 : tie.Need-returns-3
 unfolding last-tick
 returns-3 c =
     let ticked = c .before .tick in
-    tick-running _ (search needs) (search needs) (c .before .before .running .ensures) (ticked .ensures)
+    flat-tick-running _ (search needs) (search needs) (c .before .before .running .ensures) (ticked .ensures)
     (c .flat-bench .ensures)
 
 pub limpidorsa-tick-spec : {M : Type 1} → statement M

@@ -5,7 +5,7 @@ use borrow.Author.Needs.{needs}
 use Rattle.verdict.specs.declared.judge.Verdict.{Verdict}
 use Rattle.verdict.specs.declared.judge.Verdict.the-variants.{Overloaded, Fits}
 use Rattle.desk.specs.Laid.{laid-verdict}
-use Rattle.desk.proofs.LaidLaws.{verdict-kept}
+use Rattle.desk.proofs.LaidLaws.{margin-laid}
 use Rattle.desk.proofs.verdicts.lay_verdict.Statement.{statement}
 use Rattle.desk.proofs.verdicts.lay_verdict.Tie as tie
 
@@ -13,14 +13,14 @@ returns : tie.Need-returns
 unfolding laid-verdict
 returns c =
     let (parts, is) = c .before .x .given in
-    verdict-kept (λ m. Overloaded (parts .0) m) (c .before .before .before .args .starts) (parts .1 .0) (search needs)
+    margin-laid (λ m. Overloaded (parts .0) m) (c .before .before .before .args .starts) (parts .1 .0) (search needs)
     (sym is)
 
 returns-2 : tie.Need-returns-2
 unfolding laid-verdict
 returns-2 c =
     let (parts, is) = c .before .x2 .given in
-    verdict-kept (λ m. Fits (parts .0) m (parts .1 .1 .0)) (c .before .before .before .args .starts) (parts .1 .0)
+    margin-laid (λ m. Fits (parts .0) m (parts .1 .1 .0)) (c .before .before .before .args .starts) (parts .1 .0)
     (search needs) (sym is)
 
 returns-3 : tie.Need-returns-3

@@ -19,7 +19,7 @@ unfolding verdict-asked flat-verdict
 returns c =
     let told = c .before in
     ap flat-verdict (passed-on _ _ (told .before .before .read-table .ensures) (told .enum-told .given .1)
-    (c .refusal-of .ensures))
+    (c .table-refusal .ensures))
 
 make-plan-requires : tie.Need-make-plan-requires
 make-plan-requires c κs =

@@ -18,7 +18,7 @@ unfolding window-asked flat-window
 returns c =
     let told = c .before in
     ap flat-window (passed-on _ _ (told .before .before .read-table .ensures) (told .enum-told .given .1)
-    (c .refusal-of .ensures))
+    (c .table-refusal .ensures))
 
 make-plan-requires : tie.Need-make-plan-requires
 make-plan-requires c κs =

@@ -4,7 +4,7 @@ use mathlib.Core.Path.{refl, sym, _∙_}
 use borrow.Author.Needs.{needs}
 use Rattle.desk.specs.Questions.{overload-asked}
 use Rattle.desk.proofs.AskLaws.{passed-on}
-use Rattle.desk.proofs.LaidLaws.{wrote-refused}
+use Rattle.desk.proofs.LaidLaws.{refused-laid}
 use Rattle.desk.proofs.writer.limpidorsa_overload.Statement.{statement}
 use Rattle.desk.proofs.writer.limpidorsa_overload.Tie as tie
 
@@ -13,8 +13,8 @@ returns : tie.Need-returns
 unfolding overload-asked
 returns c =
     let told = c .before in
-    wrote-refused _ _ refl
-    (passed-on _ _ (told .before .before .read-table .ensures) (told .enum-told .given .1) (c .refusal-of .ensures))
+    refused-laid _ _ refl
+    (passed-on _ _ (told .before .before .read-table .ensures) (told .enum-told .given .1) (c .table-refusal .ensures))
 
 write-in-requires : tie.Need-write-in-requires
 write-in-requires c κs =

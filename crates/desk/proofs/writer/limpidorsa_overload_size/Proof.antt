@@ -14,7 +14,7 @@ unfolding size-asked flat-written
 returns c =
     let told = c .before in
     ap flat-written (passed-on _ _ (told .before .before .read-table .ensures) (told .enum-told .given .1)
-    (c .refusal-of .ensures))
+    (c .table-refusal .ensures))
 
 size-in-requires : tie.Need-size-in-requires
 size-in-requires c κs = sym (c .before .before .before .read-table .ensures) ∙ c .before .reading .given .1

@@ -7,7 +7,7 @@ use Rattle.table.proofs.ReadyLaws.{ready-read}
 use Rattle.desk.specs.Orders.{lacks-room, list-in}
 use Rattle.desk.specs.Questions.{overload-asked}
 use Rattle.desk.proofs.AskLaws.{plan-room}
-use Rattle.desk.proofs.LaidLaws.{wrote-refused, wrote-laid}
+use Rattle.desk.proofs.LaidLaws.{refused-laid, wrote-laid}
 use Rattle.desk.proofs.WritingLaws.{calm-refused, overload-answered, writer-asked}
 use Rattle.desk.proofs.writer.write_in.Statement.{statement}
 use Rattle.desk.proofs.writer.write_in.Tie as tie
@@ -21,7 +21,7 @@ returns c =
     let judged = c .before .before in
     let known = judged .before .before .before in
     let lent = known .before .args in
-    wrote-refused _ _ (c .refuse .ensures)
+    refused-laid _ _ (c .refuse .ensures)
     (calm-refused _ _ (known .before .pre) (judged .judge-to .ensures)
     (lacks-room (lent .buffer .now) (lent .place) ∷ []) list-in (c .before .match .keys2))
 

@@ -6,7 +6,7 @@ use mathlib.Core.Path.{refl}
 use borrow.Author.Needs.{needs}
 use Rattle.laws.proofs.Fill.{Filled, filled-none, filled-turn, filled-whole}
 use Rattle.table.specs.TableOf.{table-of}
-use Rattle.overload.specs.Counts.{many-in, counts}
+use Rattle.overload.specs.Counts.{many-in, task-counts}
 use Rattle.overload.proofs.count.count_all.Statement.{statement}
 use Rattle.overload.proofs.count.count_all.Tie as tie
 
@@ -23,7 +23,7 @@ loop-again : tie.Need-loop-again Inv-loop μ-loop
 loop-again c = filled-turn (c .before .before .loop .inv) (c .many-of .result) (search needs) (c .many-of .ensures)
 
 returns : tie.Need-returns Inv-loop μ-loop
-unfolding counts
+unfolding task-counts
 returns c = filled-whole (c .before .loop .inv) (search needs)
 
 pub count-all-spec : {M : Type 1} → statement M

@@ -26,7 +26,7 @@ returns c =
     let read = next .before .before .before in
     let counted = read .before in
     moved-is _ _ _ (counted .count-frames .ensures) (next .following .ensures) (read .frame-at .ensures)
-    (c .wide .ensures .0)
+    (c .wide-half .ensures .0)
 
 pub move-on-spec : {M : Type 1} → statement M
 move-on-spec =

@@ -7,7 +7,7 @@ use borrow.Author.Needs.{needs}
 use lib.ListN.{getD, length-set}
 use lib.Seq.{sets-eq}
 use Rattle.requests.specs.Entry.{entry-bytes}
-use Rattle.overload.specs.Lanes.{next-in}
+use Rattle.overload.specs.Lanes.{next-request}
 use Rattle.overload.proofs.put.put_next.Statement.{statement}
 use Rattle.overload.proofs.put.put_next.Tie as tie
 
@@ -19,7 +19,8 @@ cast-out-5 c =
 
 returns : tie.Need-returns
 returns c =
-    let at = c .before .before .args in sets-eq (entry-bytes (next-in (at .t1) (at .k))) (at .out .now) 0 (search needs)
+    let at = c .before .before .args in
+    sets-eq (entry-bytes (next-request (at .t1) (at .k))) (at .out .now) 0 (search needs)
 
 pub put-next-spec : {M : Type 1} → statement M
 put-next-spec =

@@ -5,7 +5,7 @@ use Prim.Native.Nat.{_-_}
 use borrow.Author.Needs.{needs}
 use Rattle.laws.proofs.Adding.{Adding, adding-none, adding-on}
 use Rattle.requests.specs.Entry.{widest}
-use Rattle.overload.proofs.ArrayTotalLaws.{place, total-added}
+use Rattle.overload.proofs.ArrayTotalLaws.{place, many-added}
 use Rattle.overload.proofs.write.total_of.Statement.{statement}
 use Rattle.overload.proofs.write.total_of.Tie as tie
 
@@ -24,7 +24,7 @@ loop-again c =
     adding-on (at-loop .loop .inv) (search needs) (search needs) (search needs)
 
 returns : tie.Need-returns Inv-loop μ-loop
-returns c = total-added (c .before .loop .inv) (search needs) (search needs)
+returns c = many-added (c .before .loop .inv) (search needs) (search needs)
 
 pub total-of-spec : {M : Type 1} → statement M
 total-of-spec =

@@ -5,7 +5,7 @@ use mathlib.Core.Path.{refl}
 use native.Mathlib.Omega.{arith}
 use borrow.Author.Needs.{needs}
 use Rattle.table.proofs.ReadyLaws.{ready-tasks, ready-few}
-use Rattle.overload.proofs.GatheredLaws.{Tested, place-reached, tested-puts, list-refused, list-whole}
+use Rattle.overload.proofs.GatheredLaws.{Tested, place-reached, tested-puts, tested-refused, tested-whole}
 use Rattle.overload.proofs.write.write_list.Statement.{statement}
 use Rattle.overload.proofs.write.write_list.Tie as tie
 
@@ -36,13 +36,13 @@ tested c =
     }
 
 returns : tie.Need-returns
-returns c = list-refused (tested (search needs)) (search needs)
+returns c = tested-refused (tested (search needs)) (search needs)
 
 put-all-requires : tie.Need-put-all-requires
 put-all-requires c κs = (search needs, tested-puts (tested (search needs)) refl (search needs))
 
 returns-2 : tie.Need-returns-2
-returns-2 c = list-whole (tested (search needs)) refl (search needs) _ (c .before .before .put-all .ensures)
+returns-2 c = tested-whole (tested (search needs)) refl (search needs) _ (c .before .before .put-all .ensures)
 
 pub write-list-spec : {M : Type 1} → statement M
 write-list-spec =

@@ -7,23 +7,23 @@ use borrow.Author.Needs.{needs}
 use Rattle.laws.proofs.ReaderLaws.{read-short, Reads-on, reads-start, reads-turn, reads-stopped, reads-whole}
 use Rattle.model.specs.Request.{last-arrival}
 use Rattle.table.specs.TableOf.{table-of}
-use Rattle.requests.specs.ListReader.{reader-of}
+use Rattle.requests.specs.ListReader.{list-reader}
 use Rattle.requests.proofs.PlacedLaws.{fine-known}
 use Rattle.requests.proofs.CheckLaws.{check-stopped, check-whole}
 use Rattle.requests.proofs.list_reader.check_list.Statement.{statement}
 use Rattle.requests.proofs.list_reader.check_list.Tie as tie
 
 abbrev Inv-loop : tie.InvT-loop
-Inv-loop s plan list len n b₀ i₀ b i = Reads-on (reader-of (table-of s) list) i b
+Inv-loop s plan list len n b₀ i₀ b i = Reads-on (list-reader (table-of s) list) i b
 
 abbrev μ-loop : tie.MeasureT-loop
 μ-loop s plan list len n b₀ i₀ b i = n - i
 
 returns : tie.Need-returns Inv-loop μ-loop
-returns c = check-stopped _ _ (read-short _ (sym (c .before .is-bad-length .ensures) ∙ c .if1 .taken))
+returns c = check-stopped _ _ (read-short _ (sym (c .before .is-bad-list-length .ensures) ∙ c .if1 .taken))
 
 loop-holds : tie.Need-loop-holds Inv-loop μ-loop
-loop-holds c = reads-start _ (c .before .is-bad-length .ensures) (c .if1 .left)
+loop-holds c = reads-start _ (c .before .is-bad-list-length .ensures) (c .if1 .left)
 
 returns-2 : tie.Need-returns-2 Inv-loop μ-loop
 unfolding last-arrival
@@ -34,16 +34,16 @@ returns-2 c =
     (at-entry .before .before .loop .inv)
     (search needs)
     (at-entry .entry-at .ensures)
-    (c .before .fault .ensures)
+    (c .before .list-fault .ensures)
     (search needs))
 
-after-requires : tie.Need-after-requires Inv-loop μ-loop
+list-after-requires : tie.Need-list-after-requires Inv-loop μ-loop
 unfolding last-arrival
-after-requires c κs =
+list-after-requires c κs =
     let at-entry = c .before .before in
     let b = at-entry .before .before .loop .b in (
       search needs,
-      fine-known last-arrival _ b (at-entry .entry-at .result) (c .before .fault .ensures) (search needs),
+      fine-known last-arrival _ b (at-entry .entry-at .result) (c .before .list-fault .ensures) (search needs),
     )
 
 loop-again : tie.Need-loop-again Inv-loop μ-loop
@@ -55,7 +55,7 @@ loop-again c =
     (at-entry .before .before .loop .inv)
     (search needs)
     (at-entry .entry-at .ensures)
-    (at-fault .fault .ensures)
+    (at-fault .list-fault .ensures)
     (search needs)
     (search needs)
 
@@ -74,7 +74,7 @@ check-list-spec =
     (λ c κs. search needs)
     (λ c κs. search needs)
     returns-2
-    after-requires
+    list-after-requires
     (λ c. search needs)
     (λ c. search needs)
     loop-again

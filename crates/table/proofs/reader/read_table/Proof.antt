@@ -18,10 +18,10 @@ abbrev μ-loop : tie.MeasureT-loop
 μ-loop s len n b₀ i₀ b i = n - i
 
 returns : tie.Need-returns Inv-loop μ-loop
-returns c = reading-stopped _ (read-short _ (sym (c .before .is-bad-length .ensures) ∙ c .if1 .taken))
+returns c = reading-stopped _ (read-short _ (sym (c .before .is-bad-table-length .ensures) ∙ c .if1 .taken))
 
 loop-holds : tie.Need-loop-holds Inv-loop μ-loop
-loop-holds c = few-start _ (c .before .is-bad-length .ensures) (c .if1 .left)
+loop-holds c = few-start _ (c .before .is-bad-table-length .ensures) (c .if1 .left)
 
 returns-2 : tie.Need-returns-2 Inv-loop μ-loop
 returns-2 c =
@@ -31,7 +31,7 @@ returns-2 c =
     (at-record .before .before .loop .inv .on)
     (search needs)
     (at-record .record-at .ensures)
-    (c .before .fault .ensures)
+    (c .before .table-fault .ensures)
     (search needs))
 
 loop-again : tie.Need-loop-again Inv-loop μ-loop
@@ -42,7 +42,7 @@ loop-again c =
     (at-record .before .before .loop .inv)
     (search needs)
     (at-record .record-at .ensures)
-    (at-fault .fault .ensures)
+    (at-fault .table-fault .ensures)
     (search needs)
     (search needs)
 

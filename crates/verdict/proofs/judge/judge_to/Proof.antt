@@ -6,7 +6,7 @@ use mathlib.Core.Path.{_∙_, ap}
 use native.Mathlib.Omega.{arith}
 use borrow.Author.Needs.{needs}
 use Rattle.model.specs.Task.{ProperTable}
-use Rattle.model.proofs.Walking.{Walking, Tried, walking-start, walking-end, walking-over, walking-fits, walking-on}
+use Rattle.model.proofs.Walking.{Walking, Walking-turn, walking-start, walking-end, walking-over, walking-fits, walking-on}
 use Rattle.table.specs.TableOf.{table-of}
 use Rattle.table.proofs.ReadyLaws.{ready-proper}
 use Rattle.sums.proofs.TotalLaws.{demands-are, work-is}
@@ -41,7 +41,7 @@ tried : (c : tie.After-total2 Inv-loop μ-loop) →
     let asked = asked-at c in
     let at-loop = asked .before .before in
     let entry = at-loop .before .before .args in
-    Tried (table-of (entry .s .now)) (entry .limit) (at-loop .loop .t) (at-loop .loop .low) (at-loop .loop .at)
+    Walking-turn (table-of (entry .s .now)) (entry .limit) (at-loop .loop .t) (at-loop .loop .low) (at-loop .loop .at)
     (asked .total .result) (c .before .lesser .result) (c .before .before .first-low .result)
 tried c =
     let asked = demands-are (asked-at c .total .ensures) in

@@ -1,10 +1,10 @@
--- `requests::list_rules::after` meets its contract: the record's task has one of the 16 places, and both arrays are set
--- there.
+-- `requests::list_rules::list_after` meets its contract: the record's task has one of the 16 places, and both arrays
+-- are set there.
 -- Assumes nothing.
 use borrow.Author.Needs.{needs}
 use Rattle.requests.proofs.PlacedLaws.{known-low}
-use Rattle.requests.proofs.list_rules.after.Statement.{statement}
-use Rattle.requests.proofs.list_rules.after.Tie as tie
+use Rattle.requests.proofs.list_rules.list_after.Statement.{statement}
+use Rattle.requests.proofs.list_rules.list_after.Tie as tie
 
 array-write-next : tie.Need-array-write-next
 array-write-next c =
@@ -21,8 +21,8 @@ array-write-from c =
 returns : tie.Need-returns
 returns c = cc
 
-pub after-spec : {M : Type 1} → statement M
-after-spec =
+pub list-after-spec : {M : Type 1} → statement M
+list-after-spec =
     tie.close
     (tie.spec
     (λ c. search needs)

@@ -1,11 +1,11 @@
--- `better` meets its contract: a request that is not ready leaves the best as it is; else the order decides.
+-- `better_request` meets its contract: a request that is not ready leaves the best as it is; else the order decides.
 -- Assumes nothing.
 use borrow.Author.Needs.{needs}
 use borrow.Author.Tests.{not-true, not-false}
 use Rattle.model.specs.Machine.{sooner}
 use Rattle.bench.proofs.NextLaws.{tried-skips, tried-first, tried-wins, tried-keeps}
-use Rattle.bench.proofs.next.better.Statement.{statement}
-use Rattle.bench.proofs.next.better.Tie as tie
+use Rattle.bench.proofs.next.better_request.Statement.{statement}
+use Rattle.bench.proofs.next.better_request.Tie as tie
 
 -- it is not ready
 returns : tie.Need-returns
@@ -46,8 +46,8 @@ returns-4 c =
     (c .before .goes-before .ensures)
     (c .if3 .left)
 
-pub better-spec : {M : Type 1} → statement M
-better-spec =
+pub better-request-spec : {M : Type 1} → statement M
+better-request-spec =
     tie.close
     (tie.spec
     (λ c. search needs)

@@ -1,9 +1,10 @@
--- `requests::list_rules::fault` meets its contract: rule 10 before rule 11, which asks only about a task of the table.
+-- `requests::list_rules::list_fault` meets its contract: rule 10 before rule 11, which asks only about a task of the
+-- table.
 -- Assumes nothing.
 use borrow.Author.Needs.{needs}
 use Rattle.requests.proofs.PlacedLaws.{passed-low, fault-10, fault-11, fault-none}
-use Rattle.requests.proofs.list_rules.fault.Statement.{statement}
-use Rattle.requests.proofs.list_rules.fault.Tie as tie
+use Rattle.requests.proofs.list_rules.list_fault.Statement.{statement}
+use Rattle.requests.proofs.list_rules.list_fault.Tie as tie
 
 returns : tie.Need-returns
 returns c =
@@ -37,5 +38,5 @@ returns-3 c =
     (c .before .is-out-of-turn .ensures)
     (c .if2 .left)
 
-pub fault-spec : {M : Type 1} → statement M
-fault-spec = tie.close (tie.spec (λ c κs. search needs) returns is-out-of-turn-requires returns-2 returns-3)
+pub list-fault-spec : {M : Type 1} → statement M
+list-fault-spec = tie.close (tie.spec (λ c κs. search needs) returns is-out-of-turn-requires returns-2 returns-3)

@@ -49,12 +49,12 @@ next-of jobs t = chosen jobs (sooner jobs) t (jobs .amount)
 unfoldable pub next-in : Bench → Found
 next-in b = next-of (jobs-in b) (b .tick)
 
--- the state with another outcome
-abbrev pub with-outcome : Bench → Outcome → Bench
-with-outcome b outcome =
+-- the same requests, at this tick, with these amounts left and this outcome
+abbrev pub same-requests : Bench → ℕ → List ℕ → Outcome → Bench
+same-requests b tick left outcome =
     record {
-      tick = b .tick;
-      left = b .left;
+      tick = tick;
+      left = left;
       due = b .due;
       arrive = b .arrive;
       release = b .release;
@@ -62,18 +62,13 @@ with-outcome b outcome =
       outcome = outcome;
     }
 
+-- the state with another outcome
+abbrev pub with-outcome : Bench → Outcome → Bench
+with-outcome b outcome = same-requests b (b .tick) (b .left) outcome
+
 -- the state one tick on, with these amounts left
 abbrev pub moved-on : Bench → List ℕ → Bench
-moved-on b left =
-    record {
-      tick = b .tick + 1;
-      left = left;
-      due = b .due;
-      arrive = b .arrive;
-      release = b .release;
-      task = b .task;
-      outcome = b .outcome;
-    }
+moved-on b left = same-requests b (b .tick + 1) left (b .outcome)
 
 -- "one unit goes to" it; "with none, the tick is idle"
 abbrev pub less-one : List ℕ → Found → List ℕ

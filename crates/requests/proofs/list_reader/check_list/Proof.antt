@@ -30,12 +30,8 @@ unfolding last-arrival
 returns-2 c =
     let at-entry = c .before .before in
     check-stopped _ _
-    (reads-stopped
-    (at-entry .before .before .loop .inv)
-    (search needs)
-    (at-entry .entry-at .ensures)
-    (c .before .list-fault .ensures)
-    (search needs))
+    (reads-stopped (at-entry .before .before .loop .inv) (search needs) (at-entry .entry-at .ensures)
+    (c .before .list-fault .ensures) (search needs))
 
 list-after-requires : tie.Need-list-after-requires Inv-loop μ-loop
 unfolding last-arrival
@@ -51,13 +47,8 @@ unfolding last-arrival
 loop-again c =
     let at-fault = c .before .before in
     let at-entry = at-fault .before in
-    reads-turn
-    (at-entry .before .before .loop .inv)
-    (search needs)
-    (at-entry .entry-at .ensures)
-    (at-fault .list-fault .ensures)
-    (search needs)
-    (search needs)
+    reads-turn (at-entry .before .before .loop .inv) (search needs) (at-entry .entry-at .ensures)
+    (at-fault .list-fault .ensures) (search needs) (search needs)
 
 returns-3 : tie.Need-returns-3 Inv-loop μ-loop
 returns-3 c = check-whole _ _ (reads-whole (c .before .loop .inv) (search needs)) (search needs)

@@ -18,7 +18,7 @@ use Rattle.sums.specs.declared.peak.Peak.{Peak}
 abbrev pub ceiling : ℕ
 ceiling = 1048576
 
--- the greatest E, and so the greatest D and P
+-- the greatest number of 16 bits: no E, D or P is greater
 abbrev pub largest : ℕ
 largest = 65535
 

@@ -30,7 +30,8 @@ use Rattle.verdict.specs.VerdictWritten.{judged-of}
 use Rattle.verdict.proofs.judge.Verdict.{the-type}
 use Rattle.overload.specs.Counts.{Asked}
 use Rattle.place.specs.Place.{fitted}
-use Rattle.desk.specs.Orders.{Test-order, not-overloaded, is-calm, list-at}
+use Rattle.desk.specs.Orders.{Test-order}
+use Rattle.desk.specs.OverloadRules.{not-overloaded, is-calm, list-at}
 use Rattle.desk.specs.Questions.{on-order, size-asked, overload-asked}
 
 -- ---- the verdict taken apart

@@ -1,3 +1,4 @@
+pub mod OverloadRules
 pub mod Orders
 pub mod Questions
 pub mod ListQuestions

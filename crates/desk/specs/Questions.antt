@@ -18,7 +18,8 @@ use Rattle.table.specs.declared.reader.Reading.the-variants as reading
 use Rattle.table.specs.Bytes.{records}
 use Rattle.table.specs.TableReader.{reading-of}
 use Rattle.table.specs.TableOf.{table-of}
-use Rattle.desk.specs.Orders.{Test-order, table-only, time-order, task-order, frame-order, size-order, writing-order, list-in}
+use Rattle.desk.specs.Orders.{Test-order, table-only, time-order, task-order, frame-order, size-order, writing-order}
+use Rattle.desk.specs.OverloadRules.{list-in}
 
 -- the table's own refusal first; else what is said of a table
 abbrev pub after-reading : {A : Type 0} → Reading → Answer A → Answer A

@@ -8,7 +8,8 @@ use base.Fml.{Lft}
 use denote.Ref.{now, at-last}
 use Rattle.table.specs.Bytes.{Bytes}
 use Rattle.table.specs.TableOf.{table-of}
-use Rattle.desk.specs.Orders.{table-only, time-order, task-order, frame-order, size-order, writing-order, list-in}
+use Rattle.desk.specs.Orders.{table-only, time-order, task-order, frame-order, size-order, writing-order}
+use Rattle.desk.specs.OverloadRules.{list-in}
 use Rattle.desk.specs.Questions.{read-asked, demand-asked, work-asked, margin-asked, window-asked, verdict-asked, response-asked, size-asked, overload-asked}
 use Rattle.desk.specs.ListQuestions.{counts, loads, replays, list-asked, load-asked, replay-asked}
 use Rattle.promise.specs.Asked.{Question, read, demand, work, margin, window, verdict, response, overload-size, overload, list, load, replay, row}

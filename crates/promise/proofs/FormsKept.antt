@@ -13,7 +13,8 @@ use Rattle.desk.specs.Flat.{refusal, flat-shape, flat-amount, flat-margin, flat
 use Rattle.desk.specs.FlatVerdict.{flat-verdict, flat-response}
 use Rattle.desk.specs.FlatList.{seen, flat-written, flat-listed, flat-ending}
 use Rattle.desk.specs.FlatBench.{flat-loaded}
-use Rattle.promise.specs.Forms.{Form, read-back, shape-form, amount-form, margin-form, window-form, verdict-form, response-form, size-form, written-form, listed-form, loading-form, ending-form}
+use Rattle.promise.specs.Forms.{Form, read-back, shape-form, amount-form, margin-form, window-form, verdict-form, response-form}
+use Rattle.promise.specs.ListForms.{size-form, written-form, listed-form, loading-form, ending-form}
 use Rattle.promise.specs.RefusalCases.{Numbers-one}
 use Rattle.promise.proofs.StepLaws.{state-kept}
 

@@ -11,7 +11,7 @@ use Rattle.model.specs.Machine.{sooner, pick, left-at}
 use Rattle.table.specs.Bytes.{record-of}
 use Rattle.table.specs.TableOf.{records-before, records-of, task-of, table-of}
 use Rattle.promise.specs.Promises.{Finishes-each}
-use Rattle.promise.specs.Examples.{one, both}
+use Rattle.promise.specs.ExampleCases.{one, both}
 
 pub not-legal : Legal (table-of one) both → ⊥
 unfolding record-of records-before records-of task-of sum

@@ -30,7 +30,8 @@ use Rattle.bench.proofs.SwiftRun.{run-stops, replay-stops}
 use Rattle.table.specs.Deadlines.{first-above}
 use Rattle.desk.specs.Questions.{demand-asked, response-asked}
 use Rattle.promise.specs.Tables.{A, B, B-list, F, K7-task, four, twenty}
-use Rattle.promise.specs.Named.{Named, Is-said, named, values, Named-right, K2, K4, K4-list, K4-place-2, K4-place-5, K5, K6, K8-task-3}
+use Rattle.promise.specs.Named.{Named, Is-said, named, K2, K4, K4-list, K4-place-2, K4-place-5, K5, K6, K8-task-3}
+use Rattle.promise.specs.NamedRight.{values, Named-right}
 use Rattle.promise.proofs.SameLaws.{same-int, same-list, same-list-is, same-verdict, same-replay, same-response, same-answer, same-answer-is}
 use Rattle.promise.proofs.RowLaws.{is-byte, are-bytes, right, row-right, rows-right}
 use Rattle.promise.proofs.QuickLaws.{by-verdict, room-or}

@@ -22,7 +22,8 @@ use Rattle.place.specs.Place.{no-room}
 use Rattle.place.proofs.PlaceLaws.{catches-room}
 use Rattle.table.specs.Deadlines.{first-above, Within-P, First-above}
 use Rattle.table.proofs.DeadlineLaws.{Above-told, first-above-is, above-told}
-use Rattle.desk.specs.Orders.{time-order, task-order, frame-order, size-order, writing-order, is-found, Overloaded-at, is-calm, list-at, list-in, t-in}
+use Rattle.desk.specs.Orders.{time-order, task-order, frame-order, size-order, writing-order, is-found}
+use Rattle.desk.specs.OverloadRules.{Overloaded-at, is-calm, list-at, list-in, t-in}
 use Rattle.promise.proofs.OverloadVerdicts.{over-at, over-verdict}
 
 module _ (s : List ℕ) where

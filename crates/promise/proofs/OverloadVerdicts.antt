@@ -10,7 +10,7 @@ use Rattle.model.specs.Verdict.{horizon, overloaded, starts, verdict}
 use Rattle.model.specs.VerdictMeaning.{Overloaded}
 use Rattle.model.proofs.StartLaws.{starts-sixteen, starts-each, starts-past}
 use Rattle.model.proofs.VerdictLaws.{means-only}
-use Rattle.desk.specs.Orders.{Overloaded-at}
+use Rattle.desk.specs.OverloadRules.{Overloaded-at}
 
 pub over-at : {table : Table} {t : ℕ} {m : ℤ} {first : List ℕ} → Overloaded horizon table t m first
     → Overloaded-at table t

@@ -17,7 +17,7 @@ use Rattle.desk.specs.Flat.{none}
 use Rattle.desk.specs.FlatList.{flat-written, Flat-wrote}
 use Rattle.promise.specs.Tables.{A, B, B-list}
 use Rattle.promise.specs.Promises.{No-schedule, Overload-shown}
-use Rattle.promise.specs.Examples.{B-jobs, its-own, other-first, Leaves-job, B-written}
+use Rattle.promise.specs.ExampleCases.{B-jobs, its-own, other-first, Leaves-job, B-written}
 use Rattle.promise.proofs.NamedLaws.{B-bytes, cited}
 use Rattle.promise.proofs.ListExact.{replay-means}
 use Rattle.promise.proofs.OverloadedLaws.{overloaded-shown}

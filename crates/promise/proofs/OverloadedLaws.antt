@@ -25,7 +25,7 @@ use Rattle.requests.specs.Accepted.{Accepted}
 use Rattle.requests.proofs.LawfulLaws.{lawful-accepted}
 use Rattle.overload.specs.Shows.{Shows}
 use Rattle.desk.specs.declared.answers.Written.{Written}
-use Rattle.desk.specs.Orders.{Overloaded-at, list-at}
+use Rattle.desk.specs.OverloadRules.{Overloaded-at, list-at}
 use Rattle.desk.specs.Questions.{verdict-asked, overload-asked}
 use Rattle.desk.specs.ListQuestions.{replays, replay-asked}
 use Rattle.desk.specs.FlatList.{Flat-wrote}

@@ -31,7 +31,7 @@ use Rattle.bench.specs.Loaded.{slots-of, loaded}
 use Rattle.bench.proofs.SwiftRun.{run-stops, replay-stops}
 use Rattle.desk.specs.ListQuestions.{on-list, replays, replay-asked}
 use Rattle.promise.specs.Tables.{A}
-use Rattle.promise.specs.Examples.{A-task, A-round, A-list}
+use Rattle.promise.specs.ExampleCases.{A-task, A-round, A-list}
 use Rattle.promise.specs.Promises.{Finishes-each, Passed}
 use Rattle.promise.proofs.NamedLaws.{A-bytes, cited}
 use Rattle.promise.proofs.JudgedLaws.{judged-well}

@@ -17,7 +17,7 @@ use Rattle.table.specs.Bytes.{Bytes}
 use Rattle.table.proofs.TaskLaws.{well-proper}
 use Rattle.bench.proofs.SwiftRun.{replay-stops, replay-stops-is}
 use Rattle.place.specs.Place.{no-room, buffer-after}
-use Rattle.desk.specs.Orders.{list-at, is-calm, t-in}
+use Rattle.desk.specs.OverloadRules.{list-at, is-calm, t-in}
 use Rattle.desk.specs.Questions.{on-table, verdict-asked, size-asked, overload-asked}
 use Rattle.desk.specs.ListQuestions.{on-list, replay-asked}
 use Rattle.promise.specs.Asked as Ask

@@ -20,7 +20,7 @@ use Rattle.desk.specs.Questions.{response-asked}
 use Rattle.promise.specs.Tables.{A, B, B-list}
 use Rattle.promise.specs.Given.{Given, List-given}
 use Rattle.promise.specs.Asked.{replay}
-use Rattle.promise.specs.Examples.{late-table}
+use Rattle.promise.specs.ExampleCases.{late-table}
 use Rattle.promise.proofs.NamedLaws.{A-bytes, B-bytes, cited}
 use Rattle.promise.proofs.ExactLaws.{answered-none}
 use Rattle.promise.proofs.EveryLaws.{every-question}

@@ -17,7 +17,7 @@ use Rattle.bench.specs.Loaded.{slots-of, loaded}
 use Rattle.laws.specs.Sums.{tabulate}
 use Rattle.desk.specs.FlatBench.{outcome-number, missed-record, flat-bench, flat-tick}
 use Rattle.desk.proofs.FlatTickLaws.{flat-tick-stopped, flat-tick-past, flat-tick-running}
-use Rattle.promise.specs.Forms.{outcome-by, read-state}
+use Rattle.promise.specs.ListForms.{outcome-by, read-state}
 use Rattle.promise.specs.NothingLost.{flat-run, Stepped, Idle-zero}
 
 outcome-kept : (o : Outcome) → outcome-by (outcome-number o) (missed-record o) ≡ o

@@ -18,7 +18,8 @@ use Rattle.table.proofs.TaskLaws.{well-proper}
 use Rattle.place.specs.Place.{buffer-after}
 use Rattle.overload.specs.Shows.{Shows}
 use Rattle.overload.proofs.Shown.{list-shows}
-use Rattle.desk.specs.Orders.{size-order, writing-order, Overloaded-at, list-at, list-in, t-in}
+use Rattle.desk.specs.Orders.{size-order, writing-order}
+use Rattle.desk.specs.OverloadRules.{Overloaded-at, list-at, list-in, t-in}
 use Rattle.desk.specs.Questions.{verdict-asked, size-asked, overload-asked}
 use Rattle.promise.specs.Writing.{Holds-list, Leaves-behind}
 use Rattle.promise.proofs.TableLaws.{well-judged}

@@ -16,11 +16,13 @@ use Rattle.model.specs.Answer.{Answer}
 use Rattle.table.specs.Bytes.{records}
 use Rattle.requests.specs.Entry.{list-of}
 use Rattle.place.specs.Place.{buffer-after}
-use Rattle.desk.specs.Orders.{Test-order, table-only, time-order, task-order, frame-order, size-order, writing-order, list-in}
+use Rattle.desk.specs.Orders.{Test-order, table-only, time-order, task-order, frame-order, size-order, writing-order}
+use Rattle.desk.specs.OverloadRules.{list-in}
 use Rattle.desk.specs.Questions.{read-asked, demand-asked, work-asked, margin-asked, window-asked, verdict-asked, response-asked, size-asked, overload-asked}
 use Rattle.desk.specs.ListQuestions.{counts, loads, replays, list-asked, load-asked, replay-asked}
 use Rattle.promise.specs.Given.{Given, List-given}
-use Rattle.promise.specs.Forms.{Form, shape-form, amount-form, margin-form, window-form, verdict-form, response-form, size-form, written-form, listed-form, loading-form, ending-form}
+use Rattle.promise.specs.Forms.{Form, shape-form, amount-form, margin-form, window-form, verdict-form, response-form}
+use Rattle.promise.specs.ListForms.{size-form, written-form, listed-form, loading-form, ending-form}
 
 pub data Question : Type 0 where
   read : Question

@@ -24,7 +24,7 @@ use Rattle.promise.specs.Numbers.{Numbers}
 use Rattle.promise.specs.Promises.{Passed, Overload-shown, Judged-rightly}
 use Rattle.promise.specs.Settled.{Settled-each}
 use Rattle.promise.specs.NothingLost.{Stepped, Idle-zero}
-use Rattle.promise.specs.Named.{Named-right}
+use Rattle.promise.specs.NamedRight.{Named-right}
 use Rattle.promise.specs.Callers.{Callers}
 
 pub record Demands (s : List ℕ) : Type 0 where

@@ -2,84 +2,32 @@
 -- theorem, or the rules, then say of it.
 -- Assumes nothing.
 use mathlib.Core.Path.{_≡_}
-use mathlib.Core.List.{List, [], _++_}
-use Prim.Native.Nat.{ℕ, zero, suc, _≤_}
+use mathlib.Core.List.{[]}
+use Prim.Native.Nat.{ℕ, suc, _≤_}
 use lib.IntN.{pos, negsuc}
 use lib.ListN.{replicate}
-use Rattle.laws.specs.Search.{at}
-use Rattle.model.specs.Task.{Task}
-use Rattle.model.specs.Demand.{frame, offset, counted, work}
+use Rattle.model.specs.Demand.{counted, work}
 use Rattle.model.specs.Verdict.{overloaded, fits, undecided}
-use Rattle.model.specs.Request.{Requests, Legal}
-use Rattle.model.specs.Jobs.{Jobs, jobs-of}
+use Rattle.model.specs.Request.{Legal}
 use Rattle.model.specs.Machine.{sooner, left-at}
 use Rattle.model.specs.Replay.{all-met, Missed}
 use Rattle.model.specs.Response.{on-time, late, response-by, response}
-use Rattle.model.specs.Schedule.{Schedule, Unfinished}
-use Rattle.model.specs.Service.{machine-serves}
 use Rattle.model.specs.Answer.{answered}
 use Rattle.model.proofs.EdgeExamples as Edge
 use Rattle.model.proofs.JobExamples.{Too-many, Released-first, one-job, Ends-early, Placed-first}
 use Rattle.model.proofs.PeakStart.{peak-first}
 use Rattle.table.specs.TableOf.{table-of}
-use Rattle.requests.specs.Entry.{list-of}
 use Rattle.requests.specs.Accepted.{Accepted}
 use Rattle.desk.specs.Orders.{writing-order}
 use Rattle.desk.specs.Questions.{verdict-asked, response-asked}
 use Rattle.desk.specs.ListQuestions.{replay-asked}
 use Rattle.desk.specs.Flat.{none, refusal}
 use Rattle.desk.specs.FlatVerdict.{flat-verdict}
-use Rattle.promise.specs.Tables.{sporadic, A, B, req, B-list, each-2, each-21846, each-32769, longest}
+use Rattle.promise.specs.Tables.{A, B, B-list, each-2, each-21846, each-32769, longest}
 use Rattle.promise.specs.Given.{Given, List-given}
-use Rattle.promise.specs.Promises.{Finishes-each, Overload-shown}
+use Rattle.promise.specs.Promises.{Finishes-each}
 use Rattle.promise.specs.RefusalCases.{Cases-given}
-
--- ---- what the examples are about
-
--- the frames of A's task from frame 0 on, each as early as it may come
-abbrev pub A-task : Task
-A-task = table-of A .task 0
-
-abbrev pub A-round : ℕ → Requests
-A-round n =
-    record { count = n; request = λ i. record { task = 0; frame = frame A-task 0 i; arrival = offset A-task 0 i } }
-
--- the first three of them, at 0, 3 and 5
-unfoldable pub A-list : List ℕ
-A-list = req 0 0 0 ++ req 0 1 3 ++ req 0 2 5
-
--- (1,1,1), and two requests of it at 0, where the second may come at 1
-abbrev pub one : List ℕ
-one = sporadic 0 1 1 1
-
-abbrev pub both : Requests
-both = record { count = 2; request = λ i. record { task = 0; frame = 0; arrival = 0 } }
-
--- the jobs of B's list. The machine's own schedule gives both ticks to request 0, which asks for two; another gives the
--- first to request 1, which asks for no more
-abbrev pub B-jobs : Jobs
-B-jobs = jobs-of (table-of B) (list-of B-list)
-
-abbrev pub its-own : Schedule
-its-own = machine-serves B-jobs (sooner B-jobs)
-
-abbrev pub other-first : Schedule
-other-first zero = at 1
-other-first (suc t) = at 0
-
--- (3,4,9) under (2,4,4)
-unfoldable pub late-table : List ℕ
-late-table = sporadic 0 2 4 4 ++ sporadic 1 3 4 9
-
--- the schedule leaves request k unfinished
-pub record Leaves-job (schedule : Schedule) (k : ℕ) : Type 0 where
-  pub unfinished : Unfinished B-jobs schedule
-  pub is : unfinished .job ≡ k
-
--- the list that is written for B is the document's sixteen bytes
-pub record B-written : Type 0 where
-  pub shown : Overload-shown B 2
-  pub is : shown .list ≡ B-list
+use Rattle.promise.specs.ExampleCases.{A-list, A-round, B-jobs, B-written, Leaves-job, both, its-own, late-table, one, other-first}
 
 pub record Examples : Type 0 where
   -- passed: A fits; a legal list of every length, with arrivals past every bound; the first three requests in bytes,

@@ -1,6 +1,7 @@
 pub mod Tables
 pub mod Given
 pub mod Forms
+pub mod ListForms
 pub mod Asked
 pub mod RefusalCases
 pub mod Contracts
@@ -13,5 +14,7 @@ pub mod Writing
 pub mod Promises
 pub mod Callers
 pub mod Named
+pub mod NamedRight
 pub mod Demands
+pub mod ExampleCases
 pub mod Examples

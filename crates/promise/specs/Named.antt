@@ -2,15 +2,13 @@
 -- Assumes nothing.
 use mathlib.Core.Path.{_≡_}
 use mathlib.Core.List.{List, [], _∷_, _++_}
-use Prim.Native.Nat.{ℕ, _<_}
+use Prim.Native.Nat.{ℕ}
 use lib.IntN.{pos, negsuc}
-use lib.ListN.{length, getD, replicate}
-use Rattle.laws.specs.Sums.{tabulate}
+use lib.ListN.{replicate}
 use Rattle.model.specs.Verdict.{Verdict, overloaded, fits}
 use Rattle.model.specs.Replay.{missed}
-use Rattle.model.specs.Response.{on-time, value, higher-share}
+use Rattle.model.specs.Response.{on-time}
 use Rattle.model.specs.Answer.{Answer, answered, refused}
-use Rattle.table.specs.TableOf.{table-of}
 use Rattle.promise.specs.Tables.{sporadic, A, B, B-list, F, K7-task, four, twenty}
 use Rattle.promise.specs.Asked as Ask
 use Rattle.promise.specs.Asked.{Question, row}
@@ -97,13 +95,3 @@ named =
     -- K9 F, task 3 frame 1: response 9, 2 rounds
     ∷ on-F 3 1 9 2
     ∷ []
-
--- the first values of the recurrence for a frame
-abbrev pub values : List ℕ → ℕ → ℕ → ℕ → List ℕ
-values s many k i = tabulate many (value (higher-share (table-of s) k) (table-of s .task k .E i))
-
-pub record Named-right : Type 0 where
-  -- every row of the table; `other` stands past its end
-  pub rows : (i : ℕ) → i < length named → (other : Named) → Is-said (getD named i other)
-  -- "Task 3 frame 0 goes 2, 8, 10, 13, 14"
-  pub goes : values F 5 3 0 ≡ 2 ∷ 8 ∷ 10 ∷ 13 ∷ 14 ∷ []

@@ -11,7 +11,7 @@ use Rattle.bench.specs.Rule.{run-of}
 use Rattle.bench.specs.Loaded.{loaded, no-jobs}
 use Rattle.desk.specs.declared.answers.State.{State}
 use Rattle.desk.specs.FlatBench.{flat-bench, flat-tick}
-use Rattle.promise.specs.Forms.{read-state}
+use Rattle.promise.specs.ListForms.{read-state}
 
 -- n ticks from outside
 abbrev pub flat-run : ℕ → State → State

@@ -9,7 +9,7 @@ use Rattle.model.specs.Answer.{Answer, answered, refused}
 use Rattle.table.specs.TableOf.{table-of}
 use Rattle.table.specs.WellFormed.{WellFormed}
 use Rattle.overload.specs.Shows.{Shows}
-use Rattle.desk.specs.Orders.{Overloaded-at, list-at}
+use Rattle.desk.specs.OverloadRules.{Overloaded-at, list-at}
 
 -- the list is that of the overload, and it shows what it is to show
 pub record Writes (s list : List ℕ) : Type 0 where

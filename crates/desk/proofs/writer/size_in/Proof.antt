@@ -9,7 +9,7 @@ use Rattle.model.specs.Answer.{answered}
 use Rattle.table.specs.declared.reader.Refusal.{Refusal}
 use Rattle.table.proofs.ReadyLaws.{ready-read}
 use Rattle.desk.specs.declared.answers.Written.{Written}
-use Rattle.desk.specs.Orders.{list-in}
+use Rattle.desk.specs.OverloadRules.{list-in}
 use Rattle.desk.specs.Questions.{size-asked}
 use Rattle.desk.specs.FlatList.{flat-written}
 use Rattle.desk.proofs.AskLaws.{plan-room}

@@ -4,7 +4,7 @@ use mathlib.Core.List.{[], _∷_}
 use borrow.Author.Needs.{needs}
 use Rattle.model.specs.Verdict.{horizon}
 use Rattle.table.proofs.ReadyLaws.{ready-read}
-use Rattle.desk.specs.Orders.{lacks-room, list-in}
+use Rattle.desk.specs.OverloadRules.{lacks-room, list-in}
 use Rattle.desk.specs.Questions.{overload-asked}
 use Rattle.desk.proofs.AskLaws.{plan-room}
 use Rattle.desk.proofs.LaidLaws.{refused-laid, wrote-laid}

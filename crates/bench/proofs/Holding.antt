@@ -21,7 +21,7 @@ use Rattle.bench.specs.Loaded.{loaded}
 use Rattle.bench.specs.Ticked.{left-in, Late-in, Misses, None-late, Some-left}
 use Rattle.bench.specs.BenchMeaning.{Holds}
 use Rattle.bench.proofs.LoadedLaws.{slots-at, slots-read, slots-past}
-use Rattle.bench.proofs.SlotLaws.{less-one-at}
+use Rattle.bench.proofs.SlotLaws.{less-one-at, kept-same, kept-on}
 
 -- "all zero before loading", and then as loaded
 pub holds-start : (jobs : Jobs) (before : Order) → jobs .count ≤ most-requests → Holds jobs before 0 (loaded jobs)
@@ -31,7 +31,7 @@ holds-start jobs before fits =
       tick = refl;
       left = λ k inside. slots-at (jobs .count) (jobs .amount) fits k inside ∙ sym (left-start jobs before k);
       past = slots-past (jobs .count) (jobs .amount);
-      kept = record { due = refl; arrive = refl; release = refl; task = refl };
+      kept = kept-same;
     }
 
 module _ {jobs : Jobs} {before : Order} {t : ℕ} {b : Bench} (fits : jobs .count ≤ most-requests)
@@ -127,7 +127,5 @@ module _ {jobs : Jobs} {before : Order} {t : ℕ} {b : Bench} (fits : jobs .coun
           tick = add-one (b .tick) ∙ ap suc (holds .tick);
           left = moved-left;
           past = moved-past;
-          kept =
-              let was = holds .kept in
-              record { due = was .due; arrive = was .arrive; release = was .release; task = was .task };
+          kept = kept-on (holds .kept);
         }

@@ -3,7 +3,7 @@ pub mod ScanLaws
 pub mod TickLaws
 pub mod Stopped
 pub mod Ticking
-pub mod SwiftRun
+pub mod StoppingRun
 pub mod LoadedLaws
 pub mod LoadTurns
 pub mod SlotLaws

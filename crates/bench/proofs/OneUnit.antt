@@ -15,7 +15,7 @@ use Rattle.bench.specs.declared.state.Outcome.the-variants.{Running, Mis
 use Rattle.bench.specs.Rule.{first-late, first-left, next-in, less-one, moved-on, tick-of}
 use Rattle.bench.specs.Ticked.{left-in, Going, None-late, Some-left, Ticked, stays, stops, meets, moves, Spends, Kept}
 use Rattle.bench.proofs.TickLaws.{missed-stopped, met-stopped, tick-stopped, tick-past, tick-missed, tick-met, tick-moves}
-use Rattle.bench.proofs.SlotLaws.{first-late-at, first-late-none, first-left-at, first-left-none, next-unit, less-one-at}
+use Rattle.bench.proofs.SlotLaws.{first-late-at, first-late-none, first-left-at, first-left-none, next-unit, less-one-at, kept-same, kept-on}
 
 module _ (b : Bench) where
   moved : Going b → None-late b → Some-left b → Ticked b (moved-on b (less-one (b .left) (next-in b)))
@@ -59,10 +59,10 @@ stands b next (meets going none done) still = absurd (still going)
 stands b next (moves going none some unit) still = absurd (still going)
 
 keeps : (b next : Bench) → Ticked b next → Kept b next
-keeps b next (stays over) = record { due = refl; arrive = refl; release = refl; task = refl }
-keeps b next (stops i going misses) = record { due = refl; arrive = refl; release = refl; task = refl }
-keeps b next (meets going none done) = record { due = refl; arrive = refl; release = refl; task = refl }
-keeps b next (moves going none some unit) = record { due = refl; arrive = refl; release = refl; task = refl }
+keeps b next (stays over) = kept-same
+keeps b next (stops i going misses) = kept-on kept-same
+keeps b next (meets going none done) = kept-on kept-same
+keeps b next (moves going none some unit) = kept-on kept-same
 
 spends : (b next : Bench) → Ticked b next → (k : ℕ) → (left-in next k ≡ left-in b k → ⊥) → Spends b next k
 spends b next (stays over) k changed = absurd (changed refl)

@@ -1,4 +1,5 @@
--- What the bench's three searches over its slots answer, and what a unit less does to the list of amounts.
+-- What the bench's three searches over its slots answer, what a unit less does to the list of amounts, and that the
+-- requests themselves stay.
 -- Assumes nothing.
 use mathlib.Core.Path.{_≡_, refl, sym, _∙_, subst}
 use mathlib.Core.Logic.{inl, inr}
@@ -21,8 +22,9 @@ use Rattle.model.proofs.OrderLaws.{sooner-strict}
 use Rattle.model.proofs.MachineLaws.{one-unit}
 use Rattle.requests.specs.Entry.{most-requests}
 use Rattle.bench.specs.declared.state.Bench.{Bench}
-use Rattle.bench.specs.Rule.{has-left, is-late, jobs-in, first-late, first-left, next-in, less-one}
-use Rattle.bench.specs.Ticked.{left-in, Late-in, Misses, None-late, Some-left}
+use Rattle.bench.specs.declared.state.Outcome.{Outcome}
+use Rattle.bench.specs.Rule.{has-left, is-late, jobs-in, first-late, first-left, next-in, less-one, same-requests}
+use Rattle.bench.specs.Ticked.{left-in, Late-in, Misses, None-late, Some-left, Kept}
 
 module _ (b : Bench) where
   -- ---- the first late slot
@@ -117,3 +119,12 @@ pub less-one-at : (left : List ℕ) (r : Found) (k : ℕ) → getD (less-one lef
 unfolding less
 less-one-at left nowhere k = refl
 less-one-at left (at b) k = less-at left b k
+
+-- ---- the requests themselves
+
+pub kept-same : {b : Bench} → Kept b b
+kept-same = record { due = refl; arrive = refl; release = refl; task = refl }
+
+pub kept-on : {first b : Bench} {tick : ℕ} {left : List ℕ} {outcome : Outcome} → Kept first b
+    → Kept first (same-requests b tick left outcome)
+kept-on was = record { due = was .due; arrive = was .arrive; release = was .release; task = was .task }

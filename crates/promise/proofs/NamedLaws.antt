@@ -26,7 +26,7 @@ use Rattle.requests.specs.Entry.{entry-of, bytes-to}
 use Rattle.requests.specs.ListReader.{check-of}
 use Rattle.bench.specs.Rule.{first-late, first-left, next-in, tick-of}
 use Rattle.bench.specs.Loaded.{slots-of, loaded}
-use Rattle.bench.proofs.SwiftRun.{run-stops, replay-stops}
+use Rattle.bench.proofs.StoppingRun.{run-stops, replay-stops}
 use Rattle.table.specs.Deadlines.{first-above}
 use Rattle.desk.specs.Questions.{demand-asked, response-asked}
 use Rattle.promise.specs.Tables.{A, B, B-list, F, K7-task, four, twenty}

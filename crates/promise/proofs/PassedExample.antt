@@ -28,7 +28,7 @@ use Rattle.requests.specs.ListReader.{check-of}
 use Rattle.requests.specs.Accepted.{Accepted}
 use Rattle.bench.specs.Rule.{first-late, first-left, next-in, tick-of}
 use Rattle.bench.specs.Loaded.{slots-of, loaded}
-use Rattle.bench.proofs.SwiftRun.{run-stops, replay-stops}
+use Rattle.bench.proofs.StoppingRun.{run-stops, replay-stops}
 use Rattle.desk.specs.ListQuestions.{on-list, replays, replay-asked}
 use Rattle.promise.specs.Tables.{A}
 use Rattle.promise.specs.ExampleCases.{A-task, A-round, A-list}

@@ -15,7 +15,7 @@ use Rattle.model.specs.Answer.{Answer, answered, refused}
 use Rattle.model.proofs.WalkLaws.{walk, walk-is}
 use Rattle.table.specs.Bytes.{Bytes}
 use Rattle.table.proofs.TaskLaws.{well-proper}
-use Rattle.bench.proofs.SwiftRun.{replay-stops, replay-stops-is}
+use Rattle.bench.proofs.StoppingRun.{replay-stops, replay-stops-is}
 use Rattle.place.specs.Place.{no-room, buffer-after}
 use Rattle.desk.specs.OverloadRules.{list-at, is-calm, t-in}
 use Rattle.desk.specs.Questions.{on-table, verdict-asked, size-asked, overload-asked}

@@ -1,4 +1,5 @@
 // The replay bench: earliest deadline first, tick by tick.
+#![tactic(auto)]
 pub mod load;
 mod next;
 pub mod replay;

@@ -29,7 +29,7 @@ pub fn empty() -> Bench
 }
 
 // What a request puts into its slot.
-#[derive(Drop)]
+#[derive(Clone, Copy)]
 struct Slot {
     left: u32,
     due: u32,

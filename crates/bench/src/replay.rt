@@ -6,7 +6,7 @@ ghost use Rattle.bench.specs.ReplayWritten.{replayed_of};
 use crate::state::{Bench, Outcome};
 
 // What a replay answers: the miss with its tick and record index, or *all met* with the tick after the last unit.
-#[derive(Drop)]
+#[derive(Clone, Copy)]
 pub enum Replayed {
     Missed { tick: u32, index: usize },
     AllMet { tick: u32 },

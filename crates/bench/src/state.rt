@@ -4,7 +4,7 @@ use requests::list_reader::MOST_REQUESTS;
 // "All runs end by tick 131,070."
 pub const LAST_TICK: u32 = 131070;
 
-#[derive(Drop)]
+#[derive(Clone, Copy)]
 pub enum Outcome {
     Running,
     Missed(usize),
@@ -14,7 +14,7 @@ pub enum Outcome {
 // "The bench keeps 128 amounts left": what each request has left, and beside it its deadline, its arrival, the tick
 // from which it may run, and its task; all zero where there is no request. `Missed` names the record, and the tick of a
 // miss or of *all met* is the state's own.
-#[derive(Drop)]
+#[derive(Clone, Copy)]
 pub struct Bench {
     pub tick: u32,
     pub left: [u32; MOST_REQUESTS],

@@ -10,7 +10,7 @@ pub const NONE: Refusal = Refusal {
 
 // How many tasks and records a table has.
 #[repr(C)]
-#[derive(Drop)]
+#[derive(Clone, Copy)]
 pub struct Shape {
     pub refusal: Refusal,
     pub tasks: usize,
@@ -19,7 +19,7 @@ pub struct Shape {
 
 // A demand or a work.
 #[repr(C)]
-#[derive(Drop)]
+#[derive(Clone, Copy)]
 pub struct Amount {
     pub refusal: Refusal,
     pub amount: u64,
@@ -27,7 +27,7 @@ pub struct Amount {
 
 // Below zero where more is asked than there is time.
 #[repr(C)]
-#[derive(Drop)]
+#[derive(Clone, Copy)]
 pub struct Margin {
     pub refusal: Refusal,
     pub margin: i64,
@@ -35,7 +35,7 @@ pub struct Margin {
 
 // The closing window; `window` is 0 where no window closes.
 #[repr(C)]
-#[derive(Drop)]
+#[derive(Clone, Copy)]
 pub struct Window {
     pub refusal: Refusal,
     pub closes: bool,
@@ -52,7 +52,7 @@ pub const UNDECIDED: u8 = 3;
 // Overloaded: `t`, the least with a margin below zero, its `margin`, and the sixteen start frames, one for each task.
 // Fits: the closing `window`, the least `margin` up to it, and the first `t` that has it.
 #[repr(C)]
-#[derive(Drop)]
+#[derive(Clone, Copy)]
 pub struct Verdict {
     pub refusal: Refusal,
     pub verdict: u8,
@@ -64,7 +64,7 @@ pub struct Verdict {
 
 // On time: the value that repeats, and its round. Late: the first value that passes D, and its round.
 #[repr(C)]
-#[derive(Drop)]
+#[derive(Clone, Copy)]
 pub struct Response {
     pub refusal: Refusal,
     pub late: bool,
@@ -74,7 +74,7 @@ pub struct Response {
 
 // How many bytes the overload list has, or were written from the place on.
 #[repr(C)]
-#[derive(Drop)]
+#[derive(Clone, Copy)]
 pub struct Written {
     pub refusal: Refusal,
     pub bytes: usize,
@@ -82,7 +82,7 @@ pub struct Written {
 
 // How many records a legal list has.
 #[repr(C)]
-#[derive(Drop)]
+#[derive(Clone, Copy)]
 pub struct Listed {
     pub refusal: Refusal,
     pub records: usize,
@@ -90,7 +90,7 @@ pub struct Listed {
 
 // A miss with its tick and its record, or *all met* with the tick after the last unit; then `index` is 0.
 #[repr(C)]
-#[derive(Drop)]
+#[derive(Clone, Copy)]
 pub struct Ending {
     pub refusal: Refusal,
     pub missed: bool,
@@ -109,7 +109,7 @@ pub const ALL_MET: u8 = 2;
 // which it may run (that of its arrival), and its task, in the list's order, and zero where there is no request.
 // `index` is the record that missed, and 0 in any other outcome.
 #[repr(C)]
-#[derive(Drop)]
+#[derive(Clone, Copy)]
 pub struct State {
     pub tick: u32,
     pub outcome: u8,
@@ -123,7 +123,7 @@ pub struct State {
 
 // How many records the list has, and the bench that is loaded with it; of a refused list, a bench with nothing to do.
 #[repr(C)]
-#[derive(Drop)]
+#[derive(Clone, Copy)]
 pub struct Loaded {
     pub refusal: Refusal,
     pub records: usize,

@@ -19,6 +19,7 @@
 // How long an answer takes is not promised: a verdict walks t by t and frame by frame, and takes seconds where P is
 // very short and no window closes early, with many such frames minutes. An overload list and its size take as long, for
 // they begin with the verdict.
+#![tactic(auto)]
 pub mod limits;
 // What is answered.
 pub mod answers;

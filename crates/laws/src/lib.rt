@@ -1,1 +1,2 @@
 // No code: general definitions and laws that the kit lacks, once. Nothing here knows of tables.
+#![tactic(auto)]

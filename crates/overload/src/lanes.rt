@@ -6,7 +6,7 @@ ghost use Rattle.overload.specs.Lanes.{front, better_of, Movable, lanes_moved};
 use table::plan::Plan;
 
 // Of each task, how many of its requests are left, and the frame and the arrival of the next.
-#[derive(Drop)]
+#[derive(Clone, Copy)]
 pub struct Lanes {
     pub left: [u32; 16],
     pub frame: [u8; 16],

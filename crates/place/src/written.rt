@@ -5,7 +5,7 @@ ghost use Rattle.place.specs.Place.{no_room};
 use table::reader::Refusal;
 
 // How many bytes were written, or the refusal.
-#[derive(Drop)]
+#[derive(Clone, Copy)]
 pub enum Written {
     Bytes(usize),
     Refused(Refusal),

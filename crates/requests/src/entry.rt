@@ -6,7 +6,7 @@ ghost use Rattle.requests.specs.Entry.{entry_size, word, entry_of};
 pub const ENTRY_SIZE: usize = 8;
 
 // A request with its two pad bytes, which rule 10 wants zero.
-#[derive(Drop)]
+#[derive(Clone, Copy)]
 pub struct Entry {
     pub task: u8,
     pub frame: u8,

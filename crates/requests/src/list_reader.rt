@@ -13,7 +13,7 @@ use table::reader::Refusal;
 pub const MOST_REQUESTS: usize = 128;
 
 // A legal list by its number of records, or the refusal.
-#[derive(Drop)]
+#[derive(Clone, Copy)]
 pub enum Checked {
     Legal(usize),
     Refused(Refusal),

@@ -15,7 +15,7 @@ pub const LAST_ARRIVAL: u32 = 65535;
 
 // What the records so far say. The next record comes after `arrival`, or at it with a task from `task` on; of each
 // task, `next` is one more than the frame that has to come next, or 0 where any may, and it may not come before `from`.
-#[derive(Drop)]
+#[derive(Clone, Copy)]
 pub struct Carry {
     pub arrival: u32,
     pub task: u16,

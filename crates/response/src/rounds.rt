@@ -9,7 +9,7 @@ ghost use Rattle.response.specs.ResponseWritten.{Recurs, ResponseIs};
 
 use table::plan::Plan;
 
-#[derive(Drop)]
+#[derive(Clone, Copy)]
 pub enum Response {
     OnTime { value: u64, rounds: u64 },
     Late { value: u64, round: u64 },

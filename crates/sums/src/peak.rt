@@ -2,7 +2,7 @@
 ghost use Rattle.table.specs.TableOf.{task_of};
 ghost use Rattle.sums.specs.Sized.{Stands, Raised, Greatest};
 
-#[derive(Drop)]
+#[derive(Clone, Copy)]
 pub struct Peak {
     pub sum: u64,
     pub start: usize,

@@ -9,7 +9,7 @@ use crate::plan::Plan;
 use crate::record::Record;
 
 // Where a task stands: its first record, and its number of frames.
-#[derive(Drop)]
+#[derive(Clone, Copy)]
 pub struct Place {
     pub first: usize,
     pub frames: usize,

@@ -5,7 +5,7 @@ ghost use Rattle.laws.specs.Sums.{only};
 ghost use Rattle.table.specs.TableOf.{records_before, plan_of};
 
 // The first record of each task, and after the last task's the end of the table.
-#[derive(Drop)]
+#[derive(Clone, Copy)]
 pub struct Plan {
     pub tasks: usize,
     pub first: [usize; 17],

@@ -8,7 +8,7 @@ use crate::rules::SoFar;
 // The most records of a table.
 pub const MOST_RECORDS: usize = 64;
 
-#[derive(Drop)]
+#[derive(Clone, Copy)]
 pub struct Shape {
     pub records: usize,
     pub tasks: usize,
@@ -17,13 +17,13 @@ pub struct Shape {
 // "Every refusal is a refusal number with the record index." A number of document 01's table, and the index of the
 // record that it carries; 0 and 0 where nothing was refused. In C's layout, for the desk hands it out as it is.
 #[repr(C)]
-#[derive(Drop)]
+#[derive(Clone, Copy)]
 pub struct Refusal {
     pub number: u8,
     pub index: usize,
 }
 
-#[derive(Drop)]
+#[derive(Clone, Copy)]
 pub enum Reading {
     Table(Shape),
     Refused(Refusal),

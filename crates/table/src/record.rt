@@ -5,7 +5,7 @@ ghost use Rattle.table.specs.Bytes.{size, half, record_of};
 // The bytes of one record.
 pub const SIZE: usize = 8;
 
-#[derive(Drop)]
+#[derive(Clone, Copy)]
 pub struct Record {
     pub task: u8,
     pub kind: u8,

@@ -6,7 +6,7 @@ ghost use Rattle.table.specs.TableRules.{table_after};
 use crate::record::Record;
 
 // What the records so far say: how many tasks, and of the last one its frames so far, its kind and its first P.
-#[derive(Drop)]
+#[derive(Clone, Copy)]
 pub struct SoFar {
     pub tasks: u16,
     pub frames: u16,

@@ -8,7 +8,7 @@ ghost use Rattle.verdict.specs.VerdictWritten.{judged_of};
 
 use table::plan::Plan;
 
-#[derive(Drop)]
+#[derive(Clone, Copy)]
 pub enum Verdict {
     Overloaded { t: u64, margin: i64 },
     Fits { window: u64, margin: i64, t: u64 },
@@ -16,7 +16,7 @@ pub enum Verdict {
 }
 
 // The verdict with its sixteen start frames, all zero where it is not an overload.
-#[derive(Drop)]
+#[derive(Clone, Copy)]
 pub struct Judged {
     pub verdict: Verdict,
     pub starts: [u8; 16],

@@ -8,7 +8,7 @@ ghost use Rattle.verdict.specs.VerdictWritten.{closing_of};
 
 use table::plan::Plan;
 
-#[derive(Drop)]
+#[derive(Clone, Copy)]
 pub enum Closing {
     At(u64),
     Never,

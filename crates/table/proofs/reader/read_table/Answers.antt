@@ -1,0 +1,40 @@
+-- The answers that `table::reader::read_table` is asked for.
+-- Assumes nothing.
+use Prim.Native.Nat.{◌-◌}
+use mathlib.Core.Path.{sym, ◌∙◌}
+use Rattle.std.proofs.Common.{rules}
+use Rattle.laws.proofs.ReaderLaws.{read_short, reads_stopped, reads_whole}
+use Rattle.table.proofs.Turns.{few_start, few_turn}
+use Rattle.table.proofs.ReadLaws.{reading_stopped, reading_whole}
+use Rattle.table.proofs.reader.read_table.Goals as goal
+
+pub returns-then-is_bad_table_length : goal.returns-then-is_bad_table_length
+returns-then-is_bad_table_length c = reading_stopped _ (read_short _ (sym c.is_bad_table_length.ensures ∙ c.if-is_bad_table_length.true))
+
+pub loop-i-init : goal.loop-i-init
+loop-i-init c = few_start _ c.is_bad_table_length.ensures c.if-is_bad_table_length.false
+
+pub returns-then-f-ne0 : goal.returns-then-f-ne0
+returns-then-f-ne0 c =
+    reading_stopped _
+    (reads_stopped
+    c.loop-i.invariant.on
+    (search rules)
+    c.record_at-x.ensures
+    c.table_fault-f.ensures
+    (search rules))
+
+pub loop-i-preserved : goal.loop-i-preserved
+loop-i-preserved c =
+    few_turn
+    c.loop-i.invariant
+    (search rules)
+    c.record_at-x.ensures
+    c.table_fault-f.ensures
+    (search rules)
+    (search rules)
+
+pub returns : goal.returns
+returns c =
+    let on = c.loop-i.invariant.on in
+    reading_whole _ (reads_whole on (search rules)) (search rules) (search rules)

@@ -12,8 +12,7 @@ use crate::refuse::refuse;
 use table::reader::Reading;
 
 // What the bytes are as a table. Refuses by the rules of a table, as every question does first.
-#[unsafe(no_mangle)]
-pub extern "C" fn limpidorsa_read(table: &[u8]) -> Shape
+pub fn limpidorsa_read(table: &[u8]) -> Shape
     ensures { result ≡ flat_shape (read_asked table.now) }
 {
     let reading = table::reader::read_table(table);
@@ -70,16 +69,14 @@ fn ask_sum(table: &[u8], task: u64, t: u64, due: bool) -> Amount
 }
 
 // The demand of a task at t. Refuses with 9, then 7.
-#[unsafe(no_mangle)]
-pub extern "C" fn limpidorsa_demand(table: &[u8], task: u64, t: u64) -> Amount
+pub fn limpidorsa_demand(table: &[u8], task: u64, t: u64) -> Amount
     ensures { result ≡ flat_amount (demand_asked table.now task t) }
 {
     ask_sum(table, task, t, true)
 }
 
 // The work of a task in a window w. Refuses with 9, then 7.
-#[unsafe(no_mangle)]
-pub extern "C" fn limpidorsa_work(table: &[u8], task: u64, w: u64) -> Amount
+pub fn limpidorsa_work(table: &[u8], task: u64, w: u64) -> Amount
     ensures { result ≡ flat_amount (work_asked table.now task w) }
 {
     ask_sum(table, task, w, false)
@@ -105,8 +102,7 @@ fn margin_in(table: &[u8], shape: table::reader::Shape, t: u64) -> Margin
 }
 
 // The margin of the whole table at t. Refuses with 7.
-#[unsafe(no_mangle)]
-pub extern "C" fn limpidorsa_margin(table: &[u8], t: u64) -> Margin
+pub fn limpidorsa_margin(table: &[u8], t: u64) -> Margin
     ensures { result ≡ flat_margin (margin_asked table.now t) }
 {
     let reading = table::reader::read_table(table);

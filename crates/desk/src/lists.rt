@@ -13,8 +13,7 @@ use requests::list_reader::Checked;
 use table::reader::{Reading, Shape};
 
 // What the bytes are as a request list of the table. Refuses with 10 or 11.
-#[unsafe(no_mangle)]
-pub extern "C" fn limpidorsa_list<'a, 'b>(table: &'a [u8], list: &'b [u8]) -> Listed
+pub fn limpidorsa_list<'a, 'b>(table: &'a [u8], list: &'b [u8]) -> Listed
     ensures { result ≡ flat_listed (list_asked table.now list.now) }
 {
     let reading = table::reader::read_table(table);
@@ -60,8 +59,7 @@ fn load_in<'a, 'b>(table: &'a [u8], shape: Shape, list: &'b [u8]) -> Loaded
 }
 
 // The bench loaded with a request list, before tick 0. Refuses with 10 or 11; the bench then has nothing to do.
-#[unsafe(no_mangle)]
-pub extern "C" fn limpidorsa_load<'a, 'b>(table: &'a [u8], list: &'b [u8]) -> Loaded
+pub fn limpidorsa_load<'a, 'b>(table: &'a [u8], list: &'b [u8]) -> Loaded
     ensures { result ≡ flat_loaded (load_asked table.now list.now) }
 {
     let reading = table::reader::read_table(table);
@@ -114,8 +112,7 @@ fn replay_in<'a, 'b>(table: &'a [u8], shape: Shape, list: &'b [u8]) -> Ending
 }
 
 // The replay of a request list by the earliest-deadline bench. Refuses with 10 or 11.
-#[unsafe(no_mangle)]
-pub extern "C" fn limpidorsa_replay<'a, 'b>(table: &'a [u8], list: &'b [u8]) -> Ending
+pub fn limpidorsa_replay<'a, 'b>(table: &'a [u8], list: &'b [u8]) -> Ending
     ensures { result ≡ flat_ending (replay_asked table.now list.now) }
 {
     let reading = table::reader::read_table(table);

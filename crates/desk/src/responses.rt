@@ -56,8 +56,7 @@ fn respond_in(table: &[u8], shape: Shape, task: u64, frame: u64) -> Response
 }
 
 // The response of a frame, task 0 having the highest priority. Refuses with 9, then 8.
-#[unsafe(no_mangle)]
-pub extern "C" fn limpidorsa_response(table: &[u8], task: u64, frame: u64) -> Response
+pub fn limpidorsa_response(table: &[u8], task: u64, frame: u64) -> Response
     ensures { result ≡ flat_response (response_asked table.now task frame) }
 {
     let reading = table::reader::read_table(table);

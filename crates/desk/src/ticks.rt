@@ -69,8 +69,7 @@ fn running(s: State) -> Bench
 
 // One tick of the bench, of any state. A state whose outcome is not `RUNNING` comes back unchanged, and so does one
 // past `LAST_TICK`. A bench that was loaded stops within `LAST_TICK` + 1 calls, and holds its answer then.
-#[unsafe(no_mangle)]
-pub extern "C" fn limpidorsa_tick(state: State) -> State
+pub fn limpidorsa_tick(state: State) -> State
     ensures { result ≡ flat_tick state }
 {
     if state.outcome != RUNNING {

@@ -28,8 +28,7 @@ fn lay_closing(x: Closing) -> Window
 }
 
 // The closing window of the table, also of one that is overloaded.
-#[unsafe(no_mangle)]
-pub extern "C" fn limpidorsa_window(table: &[u8]) -> Window
+pub fn limpidorsa_window(table: &[u8]) -> Window
     ensures { result ≡ flat_window (window_asked table.now) }
 {
     let reading = table::reader::read_table(table);
@@ -76,8 +75,7 @@ fn lay_verdict(x: verdict::judge::Verdict, starts: [u8; 16]) -> Verdict
 }
 
 // The earliest-deadline verdict on the table.
-#[unsafe(no_mangle)]
-pub extern "C" fn limpidorsa_verdict(table: &[u8]) -> Verdict
+pub fn limpidorsa_verdict(table: &[u8]) -> Verdict
     ensures { result ≡ flat_verdict (verdict_asked table.now) }
 {
     let reading = table::reader::read_table(table);

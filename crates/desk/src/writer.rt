@@ -35,8 +35,7 @@ fn size_in(table: &[u8], shape: Shape) -> Written
 
 // How many bytes the overload list of the table has: as many as limpidorsa_overload needs from its place on. Refuses
 // with 13.
-#[unsafe(no_mangle)]
-pub extern "C" fn limpidorsa_overload_size(table: &[u8]) -> Written
+pub fn limpidorsa_overload_size(table: &[u8]) -> Written
     ensures { result ≡ flat_written (size_asked table.now) }
 {
     let reading = table::reader::read_table(table);
@@ -83,8 +82,7 @@ fn write_in<'a, 'b>(table: &'a [u8], shape: Shape, buffer: &'b mut [u8], place: 
 // Writes the overload list of the table into the buffer, from the place on; bytes before it and after the list stay.
 // Refuses with 13, then 12. A call that is refused, with whatever number, changes no byte. limpidorsa_overload_size
 // says how many bytes the list has; it may have more records than a list that is replayed.
-#[unsafe(no_mangle)]
-pub extern "C" fn limpidorsa_overload<'a, 'b>(
+pub fn limpidorsa_overload<'a, 'b>(
     table: &'a [u8],
     buffer: &'b mut [u8],
     place: usize,

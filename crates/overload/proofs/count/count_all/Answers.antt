@@ -1,0 +1,18 @@
+-- The answers that `count_all` is asked for.
+-- Assumes nothing.
+use Prim.Native.Nat.{◌-◌}
+use mathlib.Core.Path.{refl}
+use Rattle.std.proofs.Common.{rules}
+use Rattle.laws.proofs.Fill.{filled_none, filled_turn, filled_whole}
+use Rattle.overload.specs.Counts.{task_counts}
+use Rattle.overload.proofs.count.count_all.Goals as goal
+
+pub loop-k-init : goal.loop-k-init
+loop-k-init c = filled_none _ 16 _ refl
+
+pub loop-k-preserved : goal.loop-k-preserved
+loop-k-preserved c = filled_turn c.loop-k.invariant c.many_of.result (search rules) c.many_of.ensures
+
+pub returns : goal.returns
+unfolding task_counts
+returns c = filled_whole c.loop-k.invariant (search rules)

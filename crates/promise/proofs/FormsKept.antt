@@ -61,7 +61,12 @@ pub verdict_kept : FormKept verdict_form
 unfolding flat_verdict
 verdict_kept =
     record {
-      back = λ x. elim x as (Back verdict_form) [ Judge.overloaded t m starts ↦ refl | Judge.fits w m t ↦ refl | Judge.undecided ↦ refl ];
+      back = λ x.
+          elim x as (Back verdict_form) [
+            | Judge.overloaded t m starts ↦ refl
+            | Judge.fits w m t ↦ refl
+            | Judge.undecided ↦ refl
+          ];
       front = λ number index. refl;
     }
 
@@ -69,7 +74,11 @@ pub response_kept : FormKept response_form
 unfolding flat_response
 response_kept =
     record {
-      back = λ x. elim x as (Back response_form) [ Recurrence.on_time value rounds ↦ refl | Recurrence.late value round ↦ refl ];
+      back = λ x.
+          elim x as (Back response_form) [
+            | Recurrence.on_time value rounds ↦ refl
+            | Recurrence.late value round ↦ refl
+          ];
       front = λ number index. refl;
     }
 

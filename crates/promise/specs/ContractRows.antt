@@ -74,6 +74,9 @@ Allows κ ℓ s other (Ask.response k i) r after = Answers (limpidorsa_response.
 Allows κ ℓ s other Ask.overload_size r after = Answers (limpidorsa_overload_size.Learnt (κ, tt)) (s, tt) r after
 Allows κ ℓ s other (Ask.overload buffer place) r after =
     Returns (limpidorsa_overload.Learnt (κ, (ℓ, tt))) (s, (other, (place, tt))) r (λ x. after ≡ x.1.0.now)
-Allows κ ℓ s other (Ask.list bytes) r after = Answers (limpidorsa_list.Learnt (κ, (ℓ, tt))) (s, (read_only other, tt)) r after
-Allows κ ℓ s other (Ask.load bytes) r after = Answers (limpidorsa_load.Learnt (κ, (ℓ, tt))) (s, (read_only other, tt)) r after
-Allows κ ℓ s other (Ask.replay bytes) r after = Answers (limpidorsa_replay.Learnt (κ, (ℓ, tt))) (s, (read_only other, tt)) r after
+Allows κ ℓ s other (Ask.list bytes) r after =
+    Answers (limpidorsa_list.Learnt (κ, (ℓ, tt))) (s, (read_only other, tt)) r after
+Allows κ ℓ s other (Ask.load bytes) r after =
+    Answers (limpidorsa_load.Learnt (κ, (ℓ, tt))) (s, (read_only other, tt)) r after
+Allows κ ℓ s other (Ask.replay bytes) r after =
+    Answers (limpidorsa_replay.Learnt (κ, (ℓ, tt))) (s, (read_only other, tt)) r after

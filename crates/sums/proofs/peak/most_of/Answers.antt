@@ -18,7 +18,8 @@ loop-start-smaller c = omega arith
 
 pub loop-start-preserved : goal.loop-start-preserved
 unfolding task_of
-loop-start-preserved c = trying_on c.loop-start.invariant c.count_from-sum.result (search rules) (search rules) (search rules)
+loop-start-preserved c =
+    trying_on c.loop-start.invariant c.count_from-sum.result (search rules) (search rules) (search rules)
 
 pub returns : goal.returns
 unfolding task_of

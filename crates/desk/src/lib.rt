@@ -20,6 +20,7 @@
 // very short and no window closes early, with many such frames minutes. An overload list and its size take as long, for
 // they begin with the verdict.
 #![tactic(auto)]
+
 pub mod limits;
 // What is answered.
 pub mod answers;

@@ -1,6 +1,5 @@
 -- The answers that `first_left` is asked for.
 -- Assumes nothing.
-use Prim.Native.Nat.{◌-◌}
 use mathlib.Core.Path.{ap}
 use Rattle.std.proofs.Common.{rules}
 use borrow.Author.Tests.{lt-ltb, le-ltb}

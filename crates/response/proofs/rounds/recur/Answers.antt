@@ -1,6 +1,5 @@
 -- The answers that `recur` is asked for.
 -- Assumes nothing.
-use Prim.Native.Nat.{◌-◌}
 use native.Mathlib.Omega.{arith}
 use Rattle.std.proofs.Common.{rules}
 use Rattle.model.proofs.HigherLaws.{over_never_falls}

@@ -1,6 +1,5 @@
 -- The answers that `most_of` is asked for.
 -- Assumes nothing.
-use Prim.Native.Nat.{◌-◌}
 use Rattle.std.proofs.Common.{rules}
 use native.Mathlib.Omega.{arith}
 use Rattle.table.specs.TableOf.{task_of}

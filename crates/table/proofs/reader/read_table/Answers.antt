@@ -1,6 +1,5 @@
 -- The answers that `table::reader::read_table` is asked for.
 -- Assumes nothing.
-use Prim.Native.Nat.{◌-◌}
 use mathlib.Core.Path.{sym, ◌∙◌}
 use Rattle.std.proofs.Common.{rules}
 use Rattle.laws.proofs.ReaderLaws.{read_short, reads_stopped, reads_whole}

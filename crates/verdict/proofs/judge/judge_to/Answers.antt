@@ -1,12 +1,9 @@
 -- The answers that `judge_to` is asked for.
 -- Assumes nothing.
-use Prim.Native.Nat.{◌-◌}
 use mathlib.Core.Path.{◌∙◌, ap}
 use native.Mathlib.Omega.{arith}
 use Rattle.std.proofs.Common.{rules}
-use Rattle.model.specs.Task.{ProperTable}
-use Rattle.model.proofs.Walking.{WalkingTurn, walking_start, walking_end, walking_over, walking_fits, walking_on}
-use Rattle.table.specs.TableOf.{table_of}
+use Rattle.model.proofs.Walking.{walking_start, walking_end, walking_over, walking_fits, walking_on}
 use Rattle.table.proofs.ReadyLaws.{ready_proper}
 use Rattle.sums.proofs.TotalLaws.{demands_are, work_is}
 use Rattle.verdict.specs.VerdictWritten.{judged_of}

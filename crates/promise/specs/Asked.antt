@@ -1,6 +1,6 @@
 -- Every question that may be asked of the bytes of a table, and a row for each: what the rules say to it, which
 -- refusals the document gives it, what is asked of a table, how its answer is laid flat, and what it leaves in a lent
--- buffer. A new question is a line of `Question` and a row here, two lines in Contracts, and a line in each list of
+-- buffer. A new question is a line of `Question` and a row here, two lines in ContractRows, and a line in each list of
 -- proofs/EachQuestion.
 -- Assumes nothing.
 use Rattle.std.specs.Prelude.{◌≡◌, List, [], ℕ, length}

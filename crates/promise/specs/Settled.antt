@@ -1,5 +1,5 @@
 -- One answer only, of the functions that step a bench, which answer no question: document 01, "The replay bench": "Each
--- tick takes a bench state and hands back the next". The contracts are the checker's own, as in Contracts.
+-- tick takes a bench state and hands back the next". The contracts are the checker's own, as in ContractRows.
 -- Assumes nothing.
 use Rattle.std.specs.Prelude.{◌≡◌}
 use contract.Lifetimes.{Lfts}

@@ -1,7 +1,6 @@
 pub mod NextLaws
 pub mod ScanLaws
 pub mod TickLaws
-pub mod Stopped
 pub mod Ticking
 pub mod StoppingRun
 pub mod LoadedLaws

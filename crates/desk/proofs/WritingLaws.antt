@@ -4,13 +4,10 @@
 use mathlib.Core.Bool.{true}
 use mathlib.Core.Path.{◌≡◌, refl, sym, ap, ◌∙◌}
 use mathlib.Core.List.{List, [], ◌∷◌}
-use mathlib.Core.Logic.{inl, inr}
 use Prim.Native.Nat.{ℕ}
 use native.Mathlib.Omega.{arith}
 use lib.IntN.{ℤ}
 use lib.ListN.{length}
-use types.Run.{OneOf}
-use denote.Enum.Declared.{tag_of}
 use Rattle.model.specs.Task.{Table}
 use Rattle.model.specs.Verdict as Rule
 use Rattle.model.specs.Verdict.{horizon, verdict}
@@ -27,7 +24,6 @@ use Rattle.table.proofs.ReadyLaws.{ready_proper}
 use Rattle.verdict.specs.declared.judge.Judged.{Judged}
 use Rattle.verdict.specs.declared.judge.Verdict.TheVariants.{Overloaded}
 use Rattle.verdict.specs.VerdictWritten.{judged_of}
-use Rattle.verdict.specs.contracts.judge.Verdict.{the_type}
 use Rattle.overload.specs.Counts.{Asked}
 use Rattle.place.specs.Place.{fitted}
 use Rattle.desk.specs.Orders.{TestOrder}
@@ -36,12 +32,11 @@ use Rattle.desk.specs.Questions.{on_order, size_asked, overload_asked}
 
 -- ---- the verdict taken apart
 
--- a verdict with the tag of one of the two other variants is not an overload
-other_calm : (v : Rule.Verdict) → OneOf (1 ∷ 2 ∷ []) (tag_of the_type (judged_of v).verdict) → is_calm v ≡ true
-other_calm (Rule.overloaded t m starts) tag =
-    elim tag [ inl one ↦ absurd (omega arith) | inr two ↦ absurd (omega arith) ]
-other_calm (Rule.fits window m t) tag = refl
-other_calm Rule.undecided tag = refl
+-- a verdict that is written as no overload is calm
+other_calm : (v : Rule.Verdict) → ((t : ℕ) (m : ℤ) → (judged_of v).verdict ≡ Overloaded t m → ⊥) → is_calm v ≡ true
+other_calm (Rule.overloaded t m starts) other = absurd (other _ _ refl)
+other_calm (Rule.fits window m t) other = refl
+other_calm Rule.undecided other = refl
 
 overload_told : (v : Rule.Verdict) {t : ℕ} {m : ℤ} → (judged_of v).verdict ≡ Overloaded t m
     → v ≡ Rule.overloaded t m (judged_of v).starts
@@ -53,8 +48,9 @@ module _ (s : List ℕ) (shape : Shape) (read : reading_of s ≡ reading.Table s
     (is : judged ≡ judged_of (verdict horizon (table_of s))) where
   -- 13 comes first, whatever else is asked of the list
   pub calm_refused : {A : Type 0} (more : TestOrder) (ask : Table → A)
-      → OneOf (1 ∷ 2 ∷ []) (tag_of the_type judged.verdict) → refused 13 0 ≡ on_order s (not_overloaded ∷ more) ask
-  calm_refused more ask tag = rw (read, other_calm (verdict horizon (table_of s)) (rw is at tag))
+      → ((t : ℕ) (m : ℤ) → judged.verdict ≡ Overloaded t m → ⊥)
+      → refused 13 0 ≡ on_order s (not_overloaded ∷ more) ask
+  calm_refused more ask other = rw (read, other_calm (verdict horizon (table_of s)) (rw is at other))
 
   module _ {t : ℕ} {m : ℤ} (told : judged.verdict ≡ Overloaded t m) where
     verdict_is : verdict horizon (table_of s) ≡ Rule.overloaded t m judged.starts

@@ -13,13 +13,13 @@ use Rattle.overload.proofs.put.put_next.Goals as goal
 pub overflow_cast-out-5 : goal.overflow_cast-out-5
 overflow_cast-out-5 c =
     let at = c.args in
-    let short : Fits w32 (get_or at.t1.arrival at.k 0) = search rules in
+    let short : Fits w32 (get_or at.lanes.arrival at.k 0) = search rules in
     record { fits = omega (arith, short.fits) }
 
 pub returns : goal.returns
 returns c =
     let at = c.args in
-    sets-eq (entry_bytes (next_request at.t1 at.k)) at.out.now 0 (search rules)
+    sets-eq (entry_bytes (next_request at.lanes at.k)) at.out.now 0 (search rules)
 
 pub bounds-out-1 : goal.bounds-out-1
 bounds-out-1 c = simp length-set (search rules)

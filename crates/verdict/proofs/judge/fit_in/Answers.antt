@@ -11,4 +11,4 @@ pub returns : goal.returns
 returns c =
     let entry = c.args in
     ap (λ (m : ℤ). judged_of (fits entry.window m entry.at))
-    (signed_kept c.spare-margin.result c.spare-margin.type-inv ∙ c.spare-margin.ensures ∙ sub_zero_is entry.low)
+    (signed_kept c.spare-margin.result c.spare-margin.type_inv ∙ c.spare-margin.ensures ∙ sub_zero_is entry.low)

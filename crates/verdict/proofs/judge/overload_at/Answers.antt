@@ -15,5 +15,5 @@ unfolding overloaded_at
 returns c =
     let made = c.spare-margin in
     ap₂ (λ (m : ℤ) (l : List ℕ). judged_of (overloaded c.args.t m l))
-    (signed_kept made.result made.type-inv ∙ made.ensures ∙ ap (sub_ℕ c.args.t) (demands_are c.requires.2))
+    (signed_kept made.result made.type_inv ∙ made.ensures ∙ ap (sub_ℕ c.args.t) (demands_are c.requires.2))
     c.starts_at-starts.ensures

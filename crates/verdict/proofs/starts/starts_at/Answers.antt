@@ -11,7 +11,7 @@ pub loop-k-init : goal.loop-k-init
 loop-k-init c = filled_none _ 16 _ refl
 
 pub loop-k-preserved : goal.loop-k-preserved
-loop-k-preserved c = filled_turn c.loop-k.invariant c.start_of_lem.result (search rules) c.start_of_lem.ensures
+loop-k-preserved c = filled_turn c.loop-k.invariant c.start_of.result (search rules) c.start_of.ensures
 
 pub returns : goal.returns
 unfolding starts

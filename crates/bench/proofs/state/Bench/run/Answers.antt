@@ -3,7 +3,7 @@
 use Prim.Native.Nat.{◌-◌}
 use Rattle.std.proofs.Common.{rules}
 use Rattle.model.specs.Replay.{last_tick}
-use Rattle.bench.proofs.Stopped.{tick_other}
+use Rattle.bench.proofs.TickLaws.{tick_stopped}
 use Rattle.bench.proofs.Ticking.{ticking_start, ticking_stop, ticking_on, ticking_end}
 use Rattle.bench.proofs.state.Bench.run.Goals as goal
 
@@ -12,7 +12,7 @@ loop-ticks-init c = ticking_start _
 
 -- the bench is stopped
 pub returns-in_default : goal.returns-in_default
-returns-in_default c = ticking_stop c.loop-ticks.invariant (tick_other _ c.in_default.keys2)
+returns-in_default c = ticking_stop c.loop-ticks.invariant (tick_stopped _ c.in_default.not-Running)
 
 pub loop-ticks-smaller : goal.loop-ticks-smaller
 unfolding last_tick

@@ -4,12 +4,11 @@ use mathlib.Core.Path.{◌∙◌, sym}
 use Rattle.std.proofs.Common.{rules}
 use Rattle.model.specs.Replay.{last_tick}
 use Rattle.bench.proofs.ScanLaws.{late_found, late_none, left_found, left_none, next_found, next_none, next_servable}
-use Rattle.bench.proofs.TickLaws.{tick_past, tick_missed, tick_met, tick_idle, tick_unit}
-use Rattle.bench.proofs.Stopped.{tick_other}
+use Rattle.bench.proofs.TickLaws.{tick_stopped, tick_past, tick_missed, tick_met, tick_idle, tick_unit}
 use Rattle.bench.proofs.state.Bench.tick.Goals as goal
 
 pub returns-in_default : goal.returns-in_default
-returns-in_default c = sym (tick_other _ c.in_default.keys2)
+returns-in_default c = sym (tick_stopped _ c.in_default.not-Running)
 
 pub returns-then-t-gt-LAST_TICK : goal.returns-then-t-gt-LAST_TICK
 unfolding last_tick

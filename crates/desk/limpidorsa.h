@@ -1,7 +1,7 @@
 /* Limpidorsa's public floor: every question of the desk, for a caller in Rattle, in C or in Rust. Byte slices and
  * numbers go in, one flat struct comes out. crates/desk/src has the functions with their contracts, which the checker
  * proves; limpidorsa.h for C, with these comments, and raw.rs for Rust are written from there. Behind them stands the
- * static library libdesk.a (x86-64 Linux), which `rt staticlib desk` writes to target/staticlib.
+ * static library libdesk.a (x86-64 Linux), which `./archive` writes from crates/desk_c to target/staticlib.
  *
  * A table is records of 8 bytes: task number, kind, then E, D and P, each 16 bits, low byte first. A list is records of
  * 8 bytes: task, frame, two zero bytes, then the arrival, 32 bits, low byte first. docs/01-scope.md has the rules.

@@ -1,4 +1,4 @@
-// Links the archive of crates/desk, which `rt staticlib desk` writes into target/staticlib.
+// Links the archive of crates/desk_c, which `./archive` writes into target/staticlib.
 fn main() {
     let here = std::env::var("CARGO_MANIFEST_DIR").expect("cargo sets CARGO_MANIFEST_DIR");
     let folder = format!("{here}/../../target/staticlib");

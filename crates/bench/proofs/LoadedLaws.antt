@@ -28,7 +28,8 @@ module _ (count : ℕ) (f : ℕ → ℕ) where
   slots_at fits k inside = tabulate_at most_requests slot k (omega arith) ∙ rw (lt-ltb k count inside)
 
   -- an array that is as it was loaded
-  pub slots_read : {l : List ℕ} → l ≡ slots_of count f → count ≤ most_requests → (k : ℕ) → k < count → get_or l k 0 ≡ f k
+  pub slots_read : {l : List ℕ} → l ≡ slots_of count f → count ≤ most_requests → (k : ℕ) → k < count
+      → get_or l k 0 ≡ f k
   slots_read is_loaded fits k inside = ap (λ l. get_or l k 0) is_loaded ∙ slots_at fits k inside
 
   pub slots_past : (k : ℕ) → count ≤ k → get_or (slots_of count f) k 0 ≡ 0

@@ -14,7 +14,7 @@ use Rattle.model.proofs.StageLaws.{run_stage}
 use Rattle.requests.specs.Entry.{most_requests}
 use Rattle.bench.specs.declared.state.Bench.{Bench}
 use Rattle.bench.specs.declared.state.Outcome.TheVariants.{Running}
-use Rattle.bench.specs.Rule.{jobs_in, next_in, less_one, moved_on, tick_of, run_of}
+use Rattle.bench.specs.Rule.{next_in, less_one, moved_on, tick_of, run_of}
 use Rattle.bench.specs.Loaded.{loaded}
 use Rattle.bench.specs.Ticked.{Ticked, stays, stops, meets, moves}
 use Rattle.bench.specs.BenchMeaning.{Holds, RunsOn, StoppedWith}

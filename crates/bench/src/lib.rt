@@ -1,5 +1,6 @@
 // The replay bench: earliest deadline first, tick by tick.
 #![tactic(auto)]
+
 pub mod load;
 mod next;
 pub mod replay;

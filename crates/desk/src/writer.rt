@@ -82,11 +82,7 @@ fn write_in<'a, 'b>(table: &'a [u8], shape: Shape, buffer: &'b mut [u8], place: 
 // Writes the overload list of the table into the buffer, from the place on; bytes before it and after the list stay.
 // Refuses with 13, then 12. A call that is refused, with whatever number, changes no byte. limpidorsa_overload_size
 // says how many bytes the list has; it may have more records than a list that is replayed.
-pub fn limpidorsa_overload<'a, 'b>(
-    table: &'a [u8],
-    buffer: &'b mut [u8],
-    place: usize,
-) -> Written
+pub fn limpidorsa_overload<'a, 'b>(table: &'a [u8], buffer: &'b mut [u8], place: usize) -> Written
     ensures { FlatWrote buffer.old place (overload_asked table.now buffer.old place) result
         buffer.new }
 {

@@ -1,7 +1,7 @@
 -- The ways out of a writer that has a list for the buffer from a place on: refusal 12 where there is no room, and the
 -- buffer with the list in it where there is. n is how many bytes the list has, as the code counts them.
 -- Assumes nothing.
-use mathlib.Core.Bool.{Bool, true, false}
+use mathlib.Core.Bool.{true, false}
 use mathlib.Core.Path.{◌≡◌, refl, sym, ap, ◌∙◌}
 use mathlib.Core.List.{List, ◌++◌}
 use Prim.Native.Nat.{ℕ, ◌+◌, ◌-◌, ◌≤◌, ◌<◌}
@@ -11,7 +11,6 @@ use lib.Seq.{drop-drop}
 use borrow.Author.Tests.{lt-ltb, le-ltb}
 use borrow.Rule.Slice.PartMut.{put_mid, mid_of}
 use Rattle.laws.proofs.Tests.{Catches, catches_lt, catches_or}
-use Rattle.model.specs.Answer.{answered, refused}
 use Rattle.place.specs.declared.written.Written.TheVariants.{Bytes, Refused}
 use Rattle.place.specs.Place.{no_room, fitted, Wrote}
 use Rattle.place.proofs.TailLaws.{lent_tail, back_tail}

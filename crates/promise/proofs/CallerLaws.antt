@@ -8,7 +8,7 @@ use Prim.Native.Nat.{ℕ, ◌≤◌}
 use native.Mathlib.Omega.{arith}
 use lib.ListN.{take, drop}
 use Rattle.model.specs.Request.{Legal}
-use Rattle.model.specs.Replay.{Replayed, missed}
+use Rattle.model.specs.Replay.{Replayed}
 use Rattle.model.specs.Answer.{answered}
 use Rattle.table.specs.Bytes.{Bytes}
 use Rattle.table.specs.TableOf.{table_of}
@@ -22,12 +22,11 @@ use Rattle.desk.specs.Questions.{verdict_asked}
 use Rattle.desk.specs.ListQuestions.{replays, replay_asked}
 use Rattle.desk.specs.FlatVerdict.{flat_verdict}
 use Rattle.promise.specs.Asked as Ask
-use Rattle.promise.specs.Contracts.{Slice}
+use Rattle.promise.specs.ContractRows.{Slice, Buffer}
 use Rattle.promise.specs.Promises.{Passed, NoSchedule, OverloadShown}
 use Rattle.promise.specs.Callers.{Judges, WritesInto, Replays, Callers}
 use Rattle.promise.proofs.EveryLaws.{every_question}
 use Rattle.promise.proofs.ListExact.{answered_good}
-use Rattle.promise.proofs.PassedLaws.{passed}
 use Rattle.promise.proofs.OverloadedLaws.{overloaded_shown}
 use Rattle.promise.proofs.WritingExact.{over_judged}
 use Rattle.promise.proofs.WrittenBack.{wrote_list, wrote_none}
@@ -41,7 +40,7 @@ module _ (s : Slice) (bytes : Bytes s.now) where
   replayed_good list is = (answered_good replays s.now list is).list_good
 
   never_missed : Passed s.now → (list : Slice) (e : Ending) → Replays s list e → e.missed ≡ false
-  never_missed fit list e (κ, ℓ, after, (x, is, none)) =
+  never_missed fit list e (κ, ℓ, name, after, (x, is, none)) =
       ap (λ (q : Ending). q.missed) is
       ∙ not_missed (replay_asked s.now list.now)
       (λ tick index asked.
@@ -50,7 +49,7 @@ module _ (s : Slice) (bytes : Bytes s.now) where
 
   -- ---- what was written
 
-  module _ (buffer : Slice) (place : ℕ) (r : Written) (after : List ℕ) (w : WritesInto s buffer place r after)
+  module _ (buffer : Buffer) (place : ℕ) (r : Written) (after : List ℕ) (w : WritesInto s buffer place r after)
       (none : r.refusal.number ≡ 0) where
     abbrev bytes_read : List ℕ
     bytes_read = take r.bytes (drop place after)
@@ -77,7 +76,7 @@ module _ (s : Slice) (bytes : Bytes s.now) where
 
     never_met : (list : Slice) → list.now ≡ bytes_read → (e : Ending) → Replays s list e
         → e.refusal.number ≡ 0 → e.missed ≡ true
-    never_met list read e (κ, ℓ, last, (x, is, end)) accepted =
+    never_met list read e (κ, ℓ, name, last, (x, is, end)) accepted =
         let (t, over, is_list) = shown in
         let same = read ∙ is_list in
         ap (λ (q : Ending). q.missed) is
@@ -93,10 +92,10 @@ module _ (s : Slice) (bytes : Bytes s.now) where
   -- the answer of the verdict's function is the rules' own, laid flat
   module _ (P : Verdict → Type 0) where
     judged_by : (r : Verdict) → Judges s r → P (flat_verdict (verdict_asked s.now)) → P r
-    judged_by r (κ, ℓ, after, (x, is, none)) = subst P (sym is)
+    judged_by r (κ, ℓ, other, after, (x, is, none)) = subst P (sym is)
 
   number_is : (n : ℕ) (r : Verdict) → Judges s r → r.verdict ≡ n → (flat_verdict (verdict_asked s.now)).verdict ≡ n
-  number_is n r (κ, ℓ, after, (x, is, none)) same = ap (λ (q : Verdict). q.verdict) (sym is) ∙ same
+  number_is n r (κ, ℓ, other, after, (x, is, none)) same = ap (λ (q : Verdict). q.verdict) (sym is) ∙ same
 
   pub callers : Callers s
   callers =

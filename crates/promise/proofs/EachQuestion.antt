@@ -13,7 +13,7 @@ use Rattle.desk.specs.OverloadRules.{list_in}
 use Rattle.desk.specs.Questions.{read_asked, demand_asked, work_asked, margin_asked, window_asked, verdict_asked, response_asked, size_asked, overload_asked}
 use Rattle.desk.specs.ListQuestions.{counts, loads, replays, list_asked, load_asked, replay_asked}
 use Rattle.promise.specs.Asked.{Question, read, demand, work, margin, window, verdict, response, overload_size, overload, list, load, replay, row}
-use Rattle.promise.specs.Contracts.{Slice}
+use Rattle.promise.specs.ContractRows.{Slice, Buffer, read_only}
 use Rattle.promise.specs.EveryQuestion.{OneAnswer}
 use Rattle.promise.proofs.OrdersRight.{time_right, task_right, frame_right, size_right, writing_right}
 use Rattle.promise.proofs.EveryNumbered.{numbers_one}
@@ -58,7 +58,7 @@ quick s (list l) = as_said s (row s (list l)) number_test refl
 quick s (load l) = as_said s (row s (load l)) unnamed refl
 quick s (replay l) = replay_quick s l
 
-module _ (κ ℓ : Lft) (s other : Slice) where
+module _ (κ ℓ : Lft) (s : Slice) (other : Buffer) where
   -- a return tells what the answer is, and mostly that nothing is lent; last a return that the contract allows
   pub one_answer : (q : Question) → (row s.now q).Lends other.now → OneAnswer κ ℓ s other q
   one_answer read lent =
@@ -96,10 +96,10 @@ module _ (κ ℓ : Lft) (s other : Slice) where
       ))
   one_answer (list l) lent =
       one_of κ ℓ s other (list l) tt (λ r after (x, is, none). rw (← lent) is) (λ r after (x, is, none). none)
-      (rw (← lent) ((s, (other, tt)), refl, refl))
+      (rw (← lent) ((s, (read_only other, tt)), refl, refl))
   one_answer (load l) lent =
       one_of κ ℓ s other (load l) tt (λ r after (x, is, none). rw (← lent) is) (λ r after (x, is, none). none)
-      (rw (← lent) ((s, (other, tt)), refl, refl))
+      (rw (← lent) ((s, (read_only other, tt)), refl, refl))
   one_answer (replay l) lent =
       one_of κ ℓ s other (replay l) tt (λ r after (x, is, none). rw (← lent) is) (λ r after (x, is, none). none)
-      (rw (← lent) ((s, (other, tt)), refl, refl))
+      (rw (← lent) ((s, (read_only other, tt)), refl, refl))

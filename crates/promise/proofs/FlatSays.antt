@@ -14,7 +14,6 @@ use Rattle.model.specs.Answer.{Answer, answered, refused}
 use Rattle.table.specs.Bytes.{Bytes}
 use Rattle.table.specs.TableOf.{table_of}
 use Rattle.table.specs.TableRefusals.{TableRefused}
-use Rattle.desk.specs.declared.answers.Verdict.{Verdict}
 use Rattle.desk.specs.Questions.{verdict_asked}
 use Rattle.desk.specs.FlatVerdict.{flat_verdict}
 use Rattle.desk.specs.FlatList.{flat_ending}

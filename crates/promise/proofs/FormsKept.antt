@@ -18,6 +18,10 @@ use Rattle.promise.specs.ListForms.{size_form, written_form, listed_form, loadin
 use Rattle.promise.specs.RefusalCases.{NumbersOne}
 use Rattle.promise.proofs.StepLaws.{state_kept}
 
+-- an answer is read back from what its struct holds
+abbrev Back : {A : Type 0} → Form A → A → Type 0
+Back form x = read_back form (form.lay (answered x)) ≡ answered (form.look x)
+
 -- of a form: an answer is read back from what its struct holds, a refusal from the refusal in front
 pub record FormKept {A : Type 0} (form : Form A) : Type 0 where
   pub back : (x : A) → read_back form (form.lay (answered x)) ≡ answered (form.look x)
@@ -47,13 +51,22 @@ margin_kept = record { back = λ x. refl; front = λ number index. refl }
 
 pub window_kept : FormKept window_form
 unfolding flat_window
-window_kept = record { back = λ x. elim x [ at w ↦ refl | nowhere ↦ refl ]; front = λ number index. refl }
+window_kept =
+    record {
+      back = λ x. elim x as (Back window_form) [ at w ↦ refl | nowhere ↦ refl ];
+      front = λ number index. refl;
+    }
 
 pub verdict_kept : FormKept verdict_form
 unfolding flat_verdict
 verdict_kept =
     record {
-      back = λ x. elim x [ Judge.overloaded t m starts ↦ refl | Judge.fits w m t ↦ refl | Judge.undecided ↦ refl ];
+      back = λ x.
+          elim x as (Back verdict_form) [
+            | Judge.overloaded t m starts ↦ refl
+            | Judge.fits w m t ↦ refl
+            | Judge.undecided ↦ refl
+          ];
       front = λ number index. refl;
     }
 
@@ -61,7 +74,11 @@ pub response_kept : FormKept response_form
 unfolding flat_response
 response_kept =
     record {
-      back = λ x. elim x [ Recurrence.on_time value rounds ↦ refl | Recurrence.late value round ↦ refl ];
+      back = λ x.
+          elim x as (Back response_form) [
+            | Recurrence.on_time value rounds ↦ refl
+            | Recurrence.late value round ↦ refl
+          ];
       front = λ number index. refl;
     }
 
@@ -89,6 +106,6 @@ pub ending_kept : FormKept ending_form
 unfolding flat_ending
 ending_kept =
     record {
-      back = λ x. elim x [ missed tick index ↦ refl | all_met tick ↦ refl ];
+      back = λ x. elim x as (Back ending_form) [ missed tick index ↦ refl | all_met tick ↦ refl ];
       front = λ number index. refl;
     }

@@ -6,10 +6,10 @@ use mathlib.Core.List.{List}
 use Prim.Native.Nat.{ℕ}
 use base.Fml.{Lft}
 use Rattle.promise.specs.Asked.{Question, row}
-use Rattle.promise.specs.Contracts.{Slice, Free, Allows}
+use Rattle.promise.specs.ContractRows.{Slice, Buffer, Free, Allows}
 use Rattle.promise.specs.EveryQuestion.{OneAnswer}
 
-module _ (κ ℓ : Lft) (s other : Slice) (q : Question) where
+module _ (κ ℓ : Lft) (s : Slice) (other : Buffer) (q : Question) where
   -- nothing is required; what a return tells of the answer and of the buffer; and a return that the contract allows
   pub one_of : Free κ ℓ s other q
       → ((r : (row s.now q).form.Flat) (after : List ℕ) → Allows κ ℓ s other q r after

@@ -35,4 +35,5 @@ module _ {Row : Type 0} (bytes_of : Row → List ℕ) (test : Row → Bool) wher
 
     pub rows_right : (rows : List Row) → T (every right rows) → (i : ℕ) → i < length rows → (other : Row)
         → Right (get_or rows i other)
-    rows_right rows computed i below other = row_right (get_or rows i other) (every_at right rows other computed i below)
+    rows_right rows computed i below other =
+        row_right (get_or rows i other) (every_at right rows other computed i below)

@@ -8,7 +8,7 @@ use native.Mathlib.Omega.{arith}
 use lib.ListN.{length, take, drop, length-append, length-drop}
 use lib.Seq.{length-take-le, take-append_seam, drop-append_seam, drop-drop, take_at, drop_at}
 use Rattle.model.specs.Demand.{margin}
-use Rattle.model.specs.Verdict.{overloaded, starts, verdict}
+use Rattle.model.specs.Verdict.{overloaded, starts}
 use Rattle.model.specs.Answer.{Answer, answered, refused}
 use Rattle.model.proofs.OverloadVerdict.{verdict_over}
 use Rattle.table.specs.Bytes.{Bytes}

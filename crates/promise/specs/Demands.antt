@@ -12,7 +12,7 @@ use Rattle.place.specs.Place.{buffer_after}
 use Rattle.bench.specs.declared.state.Bench.{Bench}
 use Rattle.desk.specs.Questions.{read_asked, verdict_asked, overload_asked}
 use Rattle.promise.specs.Asked.{Question, row}
-use Rattle.promise.specs.Contracts.{Slice}
+use Rattle.promise.specs.ContractRows.{Slice, Buffer}
 use Rattle.promise.specs.EveryQuestion.{EveryQuestion, OneAnswer}
 use Rattle.promise.specs.Writing.{LeavesBehind}
 use Rattle.promise.specs.Bench.{TicksRightly}
@@ -43,7 +43,7 @@ pub record Demands (s : List ℕ) : Type 0 where
 pub record Promised : Type 0 where
   pub demands : (s : List ℕ) → Bytes s → Demands s
   -- "Every part of every answer is settled": of each question's function, and of those that step a bench
-  pub settled : (κ ℓ : Lft) (s other : Slice) (q : Question) → (row s.now q).Lends other.now
+  pub settled : (κ ℓ : Lft) (s : Slice) (other : Buffer) (q : Question) → (row s.now q).Lends other.now
       → OneAnswer κ ℓ s other q
   pub settled_bench : SettledEach
   -- a bench that is stepped from outside is the document's, and beside a refusal it is all zero

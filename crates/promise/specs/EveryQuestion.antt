@@ -11,7 +11,7 @@ use Rattle.promise.specs.Given.{Exactly}
 use Rattle.promise.specs.Forms.{read_back}
 use Rattle.promise.specs.Asked.{Question, row}
 use Rattle.promise.specs.RefusalCases.{NumbersOne}
-use Rattle.promise.specs.Contracts.{Slice, Free, Allows}
+use Rattle.promise.specs.ContractRows.{Slice, Buffer, Free, Allows}
 
 -- of the bytes s
 pub record EveryQuestion (s : List ℕ) (q : Question) : Type 0 where
@@ -24,14 +24,14 @@ pub record EveryQuestion (s : List ℕ) (q : Question) : Type 0 where
   pub kept : let form = (row s q).form in read_back form (form.lay (row s q).said) ≡ seen form.look (row s q).said
 
 -- a call has an answer that the contract allows: what follows is not said of nothing
-pub record SomeAnswer (κ ℓ : Lft) (s other : Slice) (q : Question) : Type 0 where
+pub record SomeAnswer (κ ℓ : Lft) (s : Slice) (other : Buffer) (q : Question) : Type 0 where
   pub answer : (row s.now q).form.Flat
   pub after : List ℕ
   pub is : Allows κ ℓ s other q answer after
 
 -- of the function that is asked: its answer is what the rules say, laid flat, and the buffer that it is lent holds
 -- afterwards what they say; so two answers that it allows are equal, and so are two final buffers
-pub record OneAnswer (κ ℓ : Lft) (s other : Slice) (q : Question) : Type 0 where
+pub record OneAnswer (κ ℓ : Lft) (s : Slice) (other : Buffer) (q : Question) : Type 0 where
   -- "Any bytes may be handed in": nothing is required of a caller
   pub free : Free κ ℓ s other q
   pub some : SomeAnswer κ ℓ s other q

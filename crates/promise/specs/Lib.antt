@@ -4,7 +4,7 @@ pub mod Forms
 pub mod ListForms
 pub mod Asked
 pub mod RefusalCases
-pub mod Contracts
+pub mod ContractRows
 pub mod EveryQuestion
 pub mod Settled
 pub mod NothingLost

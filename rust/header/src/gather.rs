@@ -1,5 +1,6 @@
 //! Gathers what is written, in its order: the constants, structs and functions of the files that lib.rt makes public,
-//! and before a struct or a function the structs that it is made of, wherever they are declared.
+//! and before a struct or a function the structs that it is made of, wherever they are declared. Then it holds the
+//! exports to it.
 use crate::declared::{Constant, Declarations, Declared};
 use crate::error::Error;
 use crate::item::{Const, Item};
@@ -9,8 +10,8 @@ use crate::types::number;
 use crate::value::value_of;
 use std::collections::BTreeMap;
 
-/// What is written of a crate.
-pub fn gather(source: &Source, krate: &str) -> Result<Declarations, Error> {
+/// What is written of a crate whose functions the static library exports.
+pub fn gather(source: &Source, krate: &str, archive: &str) -> Result<Declarations, Error> {
     let lib = source.file(&Place::new(krate, &[]))?;
     let mut gathered = Gathered {
         source,
@@ -21,6 +22,7 @@ pub fn gather(source: &Source, krate: &str) -> Result<Declarations, Error> {
     };
     gathered.file(&lib, true)?;
     gathered.no_length_too_soon()?;
+    gathered.exports(archive)?;
     let opening = for_c(&lib, 1, &lib.opening)?;
     Ok(Declarations {
         opening,

@@ -3,11 +3,8 @@
 /// An item that may be written, or that leads to one.
 #[derive(Debug, PartialEq, Eq)]
 pub enum Item {
-    /// A name that the file brings in, and the path behind it.
-    Use {
-        name: String,
-        path: String,
-    },
+    /// The names that the file brings in here, each with the path behind it.
+    Use(Vec<(String, String)>),
     Module {
         name: String,
         public: bool,
@@ -15,7 +12,7 @@ pub enum Item {
     Const(Const),
     Struct(Struct),
     Function(Function),
-    /// What neither is written nor leads to anything: functions that are not exported, enums, what is for proofs only.
+    /// What neither is written nor leads to anything: functions of other names, enums, what is for proofs only.
     Other,
 }
 
@@ -39,4 +36,8 @@ pub struct Function {
     pub name: String,
     pub parameters: Vec<(String, String)>,
     pub result: Option<String>,
+    /// Its clauses, as they stand.
+    pub contract: String,
+    /// Whether C finds it under its name.
+    pub exported: bool,
 }

@@ -2,10 +2,12 @@
 //!
 //! It reads the layout that `rt fmt` writes and nothing else: the first line that it does not know stops it. Of every
 //! file that lib.rt makes public it writes the constants that are public numbers, the structs of C's layout and the
-//! exported functions, with the comments right above them.
+//! public functions whose name begins with limpidorsa_, with the comments right above them. The static library over the
+//! crate has to export these functions and no other, each with its parameters, its result and its clauses.
 mod c;
 mod declared;
 mod error;
+mod exports;
 mod gather;
 mod item;
 mod members;
@@ -25,6 +27,9 @@ pub use source::Source;
 /// The crate whose public functions are for C and Rust.
 const CRATE: &str = "desk";
 
+/// The static library that exports them.
+const ARCHIVE: &str = "desk_c";
+
 /// Both texts.
 #[derive(Debug)]
 pub struct Texts {
@@ -36,7 +41,7 @@ pub struct Texts {
 
 /// What the source says.
 pub fn texts(source: &Source) -> Result<Texts, Error> {
-    let declarations = gather::gather(source, CRATE)?;
+    let declarations = gather::gather(source, CRATE, ARCHIVE)?;
     Ok(Texts {
         header: c::header(&declarations),
         raw: raw::raw(&declarations),

@@ -1,12 +1,12 @@
 //! Structs with their fields, functions with their parameters, and the comments above them.
-use crate::declared::{Declared, Note, Type};
+use crate::declared::{Declared, Named, Note, Type};
 use crate::error::Error;
 use crate::gather::Gathered;
 use crate::item::{Function, Struct};
 use crate::source::{Entry, File};
 
 /// What the names of exported functions begin with.
-const PREFIX: &str = "limpidorsa_";
+pub const PREFIX: &str = "limpidorsa_";
 
 impl Gathered<'_> {
     pub(crate) fn structure(&mut self, file: &File, entry: &Entry, one: &Struct) -> Result<(), Error> {
@@ -41,14 +41,29 @@ impl Gathered<'_> {
     }
 
     pub(crate) fn function(&mut self, file: &File, entry: &Entry, one: &Function) -> Result<(), Error> {
-        let error = |what: String| file.place.error(entry.line, what);
-        if !one.name.starts_with(PREFIX) {
-            return Err(error(format!(
-                "{} is exported, and its name does not begin with {PREFIX}",
-                one.name
-            )));
+        if one.exported {
+            let what = format!("{} is exported here, and a library exports nothing", one.name);
+            return Err(file.place.error(entry.line, what));
         }
         self.take_name(file, entry, &one.name)?;
+        let (parameters, result) = self.signature(file, entry, one)?;
+        self.all.push(Declared::Function {
+            note: note(file, entry)?,
+            name: one.name.clone(),
+            parameters,
+            result,
+        });
+        Ok(())
+    }
+
+    /// What a function takes and what it answers.
+    pub(crate) fn signature(
+        &mut self,
+        file: &File,
+        entry: &Entry,
+        one: &Function,
+    ) -> Result<(Vec<Named>, Option<Type>), Error> {
+        let error = |what: String| file.place.error(entry.line, what);
         let mut parameters = Vec::new();
         for (name, text) in &one.parameters {
             match self.type_of(file, entry.line, text)? {
@@ -69,13 +84,7 @@ impl Gathered<'_> {
                 one.name
             )));
         }
-        self.all.push(Declared::Function {
-            note: note(file, entry)?,
-            name: one.name.clone(),
-            parameters,
-            result,
-        });
-        Ok(())
+        Ok((parameters, result))
     }
 }
 

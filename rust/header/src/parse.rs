@@ -1,12 +1,15 @@
 //! Reads items from their text.
 use crate::item::{Const, Function, Item, Struct};
+use crate::members::PREFIX;
 use crate::piece::Piece;
 
 /// The item that a piece is, or what is not known about it.
 pub fn item(piece: &Piece) -> Result<Item, String> {
-    let attribute = match piece.above.attributes.as_slice() {
+    let attributes = piece.above.attributes.iter().map(String::as_str);
+    let attributes: Vec<&str> = attributes.filter(|one| !is_of_rattle(one)).collect();
+    let attribute = match attributes.as_slice() {
         [] => "",
-        [one] => one.as_str(),
+        [one] => one,
         _ => return Err("more than one attribute is not known here".into()),
     };
     let text = piece.text.as_str();
@@ -27,7 +30,8 @@ pub fn item(piece: &Piece) -> Result<Item, String> {
             fields: None,
         })),
         ("#[repr(C)]", "struct") => structure(rest),
-        ("#[no_mangle]", "extern") if public => function(rest),
+        ("", "fn") if public && rest.starts_with(PREFIX) => function(rest, false),
+        ("#[unsafe(no_mangle)]", "extern") if public => function(rest, true),
         ("", "fn" | "enum" | "ghost" | "impl") => Ok(Item::Other),
         ("", _) => Err(format!(
             "'{}' begins no item that is known here",
@@ -40,6 +44,13 @@ pub fn item(piece: &Piece) -> Result<Item, String> {
     }
 }
 
+// What says nothing of how an item lies in memory, or of its name.
+fn is_of_rattle(attribute: &str) -> bool {
+    ["#[derive(", "#[tactic("]
+        .iter()
+        .any(|begin| attribute.starts_with(begin))
+}
+
 fn first_line(text: &str) -> &str {
     text.lines().next().unwrap_or_default()
 }
@@ -49,22 +60,34 @@ fn name_of(rest: &str) -> &str {
     &rest[..end.unwrap_or(rest.len())]
 }
 
-// `a::b::C;` or `a::B as C;`
+// `a::b::C;`, `a::B as C;` or `a::{B, C as D};`
 fn brought(rest: &str) -> Result<Item, String> {
     let path = rest.trim_end_matches(';');
-    if path.contains(['{', '*']) {
+    let (begin, names) = match path.split_once('{') {
+        Some((begin, names)) => (begin, names.trim_end_matches('}')),
+        None => ("", path),
+    };
+    let names = names.split(',').map(str::trim).filter(|name| !name.is_empty());
+    let paths: Vec<String> = names.map(|name| format!("{begin}{name}")).collect();
+    if paths
+        .iter()
+        .any(|path| path.contains(['{', '*']) || path.ends_with("self"))
+    {
         return Err(format!(
-            "'use {rest}' brings in several names: only one on a line is known here"
+            "'use {}' brings in more than names, one by one",
+            first_line(rest)
         ));
     }
+    Ok(Item::Use(paths.iter().map(|path| named(path)).collect()))
+}
+
+// The name under which a path is brought in, and the path.
+fn named(path: &str) -> (String, String) {
     let (path, name) = match path.split_once(" as ") {
         Some((path, name)) => (path, name),
         None => (path, path.rsplit("::").next().unwrap_or(path)),
     };
-    Ok(Item::Use {
-        name: name.into(),
-        path: path.into(),
-    })
+    (name.into(), path.into())
 }
 
 // `NAME: TYPE = VALUE;`, where a long value goes on in more lines
@@ -112,8 +135,8 @@ fn structure(rest: &str) -> Result<Item, String> {
     }))
 }
 
-// `"C" fn NAME<'a>(PARAMETERS) -> RESULT`, then the contract and the body
-fn function(rest: &str) -> Result<Item, String> {
+// `NAME<'a>(PARAMETERS) -> RESULT`, with `"C" fn ` before it where it is exported, then the contract and the body
+fn function(rest: &str, exported: bool) -> Result<Item, String> {
     let rest = rest.strip_prefix("\"C\" fn ").unwrap_or(rest);
     let unknown = || format!("the exported function '{}' is not known", first_line(rest));
     let (head, rest) = rest.split_once('(').ok_or_else(unknown)?;
@@ -127,7 +150,10 @@ fn function(rest: &str) -> Result<Item, String> {
     }
     let parameters = parameters.split(',').map(str::trim).filter(|one| !one.is_empty());
     let parameters = parameters.map(|one| name_and_type(one).ok_or_else(unknown));
-    if rest.lines().any(|line| line.starts_with("    requires ")) {
+    let clauses = rest.lines().skip(1).take_while(|line| line.starts_with(' '));
+    let is_whole = first_line(rest).ends_with(['{', '}']);
+    let contract: Vec<&str> = clauses.filter(|_| !is_whole).collect();
+    if contract.iter().any(|line| line.starts_with("    requires")) {
         return Err(format!(
             "the exported function {name} requires something, to which C is not held"
         ));
@@ -140,6 +166,8 @@ fn function(rest: &str) -> Result<Item, String> {
         name: name.into(),
         parameters: parameters.collect::<Result<_, _>>()?,
         result,
+        contract: contract.join("\n"),
+        exported,
     }))
 }
 

@@ -42,6 +42,9 @@ pub fn pieces(text: &str) -> Result<Vec<Piece>, (usize, String)> {
                 return Err((line, "nothing stands right below an attribute".into()));
             }
             above = Above::default();
+        } else if words.starts_with("#![") {
+            // It is the file's, and so is the comment above it.
+            above = Above::default();
         } else if let Some(said) = comment(words) {
             above.opens_file |= line == 1;
             above.note.push(said.to_string());
@@ -95,8 +98,17 @@ mod tests {
     }
 
     #[test]
+    fn what_is_said_of_the_file() {
+        let text = "// Opens.\n#![tactic(auto)]\npub mod a;\n";
+        assert_eq!(opening(text), ["Opens."]);
+        let found = pieces(text).unwrap();
+        assert_eq!((found.len(), found[0].line), (1, 3));
+        assert_eq!(found[0].above, Above::default());
+    }
+
+    #[test]
     fn where_an_item_ends() {
-        let contract = "fn f(x: u8) -> u8\n    ensures { λ r. ⌜ r ≡ x ⌝ }\n{\n    x;\n}\nfn g() {}\n";
+        let contract = "fn f(x: u8) -> u8\n    ensures { result ≡ x }\n{\n    x;\n}\nfn g() {}\n";
         assert_eq!(pieces(contract).unwrap().len(), 2);
         let constants = "pub const A: u64 = 1\n    + 2;\nconst B: C = C {\n    d: 1,\n};\n";
         assert_eq!(pieces(constants).unwrap().len(), 2);

@@ -91,11 +91,12 @@ impl Source {
 
     /// The file in which a name or path of another file is declared, and its name there.
     pub fn declared(&self, from: &File, path: &str) -> (Place, String) {
-        let brought = from.entries.iter().find_map(|entry| match &entry.item {
-            Item::Use { name, path: behind } if name == path => Some(behind.as_str()),
-            _ => None,
+        let mut brought = from.entries.iter().flat_map(|entry| match &entry.item {
+            Item::Use(names) => names.as_slice(),
+            _ => &[],
         });
-        let mut names: Vec<&str> = brought.unwrap_or(path).split("::").collect();
+        let behind = brought.find(|(name, _)| name == path);
+        let mut names: Vec<&str> = behind.map_or(path, |(_, path)| path).split("::").collect();
         let name = names.pop().unwrap_or_default().to_string();
         let place = match names.split_first() {
             None => from.place.clone(),

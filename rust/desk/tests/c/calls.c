@@ -1,5 +1,5 @@
 /* Every function of limpidorsa.h, called from C on the tables of docs/01-scope.md, and every field of each answer
- * checked. To build and run it by hand, at the top of the repository, after `rt staticlib desk`:
+ * checked. To build and run it by hand, at the top of the repository, after `./archive`:
  *
  *     cc -std=c11 -Wall -Wextra -I crates/desk -o target/calls rust/desk/tests/c/{calls,lists,bench,limits}.c \
  *         target/staticlib/libdesk.a

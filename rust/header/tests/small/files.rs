@@ -3,8 +3,8 @@ use crate::of_files;
 
 #[test]
 fn files_that_are_hidden_or_gone_or_open_with_an_item() {
-    let exports = "desk/src/floor:\n// A.\n\n#[no_mangle]\npub extern \"C\" fn limpidorsa_f() {}\n";
-    let hidden = of_files(&["desk/src/lib:\n// Opens.\nmod floor;\n", exports]).unwrap_err();
+    let floor = "desk/src/floor:\n// A.\n\n#[tactic(auto)]\npub fn limpidorsa_f() {}\n";
+    let hidden = of_files(&["desk/src/lib:\n// Opens.\nmod floor;\n", floor]).unwrap_err();
     let wanted =
         "crates/desk/src/floor.rt:4: limpidorsa_f is exported from a file that is not public in lib.rt";
     assert_eq!(hidden, wanted);

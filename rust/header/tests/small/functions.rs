@@ -2,9 +2,8 @@
 use crate::{declared, of};
 
 const WRITE: &str = "// Writes.
-#[no_mangle]
-pub extern \"C\" fn limpidorsa_write<'a, 'b>(table: &'a [u8], buffer: &'b mut [u8], place: usize) -> bool
-    ensures { λ r. ⌜ r ≡ r ⌝ }
+pub fn limpidorsa_write<'a, 'b>(table: &'a [u8], buffer: &'b mut [u8], place: usize) -> bool
+    ensures { result ≡ result }
 {
     true
 }
@@ -43,12 +42,12 @@ fn a_function_with_two_lifetimes_and_a_mut() {
 
 #[test]
 fn a_function_of_nothing() {
-    let texts = of("#[no_mangle]\npub extern \"C\" fn limpidorsa_nothing() {}\n").unwrap();
+    let texts = of("pub fn limpidorsa_nothing() {}\n").unwrap();
     assert_eq!(declared(&texts), "void limpidorsa_nothing(void);\n");
     assert!(texts.raw.ends_with("{\n    pub fn limpidorsa_nothing();\n}\n"));
 }
 
-const NOT_FOR_C: &str = "ghost use a.{b};
+const NOT_FOR_C: &str = "ghost use Rattle.a.specs.A.{b};
 
 // No.
 pub const NONE: No = No {
@@ -57,16 +56,21 @@ pub const NONE: No = No {
 
 const HIDDEN: u8 = 1;
 
+#[derive(Clone, Copy)]
 pub struct Inner {
     x: Option<u8>,
 }
 
+#[derive(Clone, Copy)]
 pub enum Either {
     A,
     B,
 }
 
-pub fn f(x: &mut Inner) -> Either {
+#[tactic(auto, using(b))]
+pub fn f(x: &mut Inner) -> Either
+    requires { b x.old }
+{
     Either::A
 }
 

@@ -33,11 +33,7 @@ fn types() {
 
 #[test]
 fn functions() {
-    let told = |head: &str| {
-        error(&format!(
-            "#[no_mangle]\npub extern \"C\" fn {head} {{\n    0\n}}\n"
-        ))
-    };
+    let told = |head: &str| error(&format!("#[tactic(auto)]\npub fn {head} {{\n    0\n}}\n"));
     let pair = told("limpidorsa_f(x: (u8, u8))");
     assert_eq!(
         pair,
@@ -60,23 +56,32 @@ fn functions() {
         told("limpidorsa_f() -> [u8; 2]"),
         "4: limpidorsa_f answers neither a number nor a struct"
     );
-    assert_eq!(
-        told("f()"),
-        "4: f is exported, and its name does not begin with limpidorsa_"
-    );
     let odd = told("limpidorsa_f() => u8");
     assert_eq!(
         odd,
         "4: the exported function 'limpidorsa_f() => u8 {' is not known"
     );
-    let requires =
-        "#[no_mangle]\npub extern \"C\" fn limpidorsa_f(x: u8)\n    requires { ⌜ x < 1 ⌝ }\n{\n}\n";
-    let wanted = "4: the exported function limpidorsa_f requires something, to which C is not held";
-    assert_eq!(error(requires), wanted);
+    for clause in [
+        "requires { x < 1 }",
+        "requires small { x < 1 }",
+        "requires* { ⌜ x < 1 ⌝ }",
+    ] {
+        assert_eq!(
+            error(&format!(
+                "#[tactic(auto)]\npub fn limpidorsa_f(x: u8)\n    {clause}\n{{\n}}\n"
+            )),
+            "4: the exported function limpidorsa_f requires something, to which C is not held"
+        );
+    }
     let unmangled = error("pub extern \"C\" fn f() {}\n");
     assert_eq!(
         unmangled,
         "3: 'pub extern \"C\" fn f() {}' begins no item that is known here"
+    );
+    let exported = error("#[unsafe(no_mangle)]\npub extern \"C\" fn limpidorsa_f() {}\n");
+    assert_eq!(
+        exported,
+        "4: limpidorsa_f is exported here, and a library exports nothing"
     );
 }
 
@@ -108,8 +113,12 @@ fn items() {
     );
     let attribute = error("#[repr(u8)]\npub enum A {\n    B,\n}\n");
     assert_eq!(attribute, "4: #[repr(u8)] above 'pub enum A {' is not known here");
-    let several = "3: 'use a::{B, C};' brings in several names: only one on a line is known here";
-    assert_eq!(error("use a::{B, C};\n"), several);
+    for several in ["a::{B, c::{D}};", "a::{self, B};", "a::*;"] {
+        assert_eq!(
+            error(&format!("use {several}\n")),
+            format!("3: 'use {several}' brings in more than names, one by one")
+        );
+    }
     let comment = error("// */ ends.\npub const A: u8 = 1;\n");
     assert_eq!(
         comment,

@@ -4,6 +4,7 @@ use crate::{declared, of, of_files};
 const NUMBERS: &str = "// Two numbers, and
 // sixteen.
 #[repr(C)]
+#[derive(Clone, Copy)]
 pub struct TwoNumbers {
     pub is_good: bool,
     pub first: i64,

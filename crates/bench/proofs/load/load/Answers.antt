@@ -1,6 +1,5 @@
 -- The answers that `bench::load::load` is asked for.
 -- Assumes nothing.
-use Prim.Native.Nat.{◌-◌}
 use Rattle.std.proofs.Common.{rules}
 use Rattle.bench.proofs.LoadTurns.{loading_start, loading_room, loading_placed, loading_turn, loading_done}
 use Rattle.bench.proofs.load.load.Goals as goal

@@ -1,6 +1,5 @@
 -- The answers that `next_of` is asked for.
 -- Assumes nothing.
-use Prim.Native.Nat.{◌-◌}
 use mathlib.Core.Path.{refl}
 use Rattle.std.proofs.Common.{rules}
 use Rattle.bench.proofs.NextLaws.{tried_start, tried_end}

@@ -1,6 +1,5 @@
 -- The answers that `first_late` is asked for.
 -- Assumes nothing.
-use Prim.Native.Nat.{◌-◌}
 use mathlib.Core.Path.{ap}
 use Rattle.std.proofs.Common.{rules}
 use Rattle.laws.specs.Search.{place_or}

@@ -1,6 +1,5 @@
 -- The answers that `first_left` is asked for.
 -- Assumes nothing.
-use Prim.Native.Nat.{◌-◌}
 use mathlib.Core.Path.{ap}
 use Rattle.std.proofs.Common.{rules}
 use borrow.Author.Tests.{lt-ltb, le-ltb}
@@ -13,7 +12,8 @@ pub loop-i-init : goal.loop-i-init
 loop-i-init c = seeking_start _ _ _
 
 pub returns-then-left-i-gt0 : goal.returns-then-left-i-gt0
-returns-then-left-i-gt0 c = ap (place_or most_requests) (seeking_hit c.loop-i.invariant (search rules) (lt-ltb _ _ c.if-left-i-gt0.true))
+returns-then-left-i-gt0 c =
+    ap (place_or most_requests) (seeking_hit c.loop-i.invariant (search rules) (lt-ltb _ _ c.if-left-i-gt0.true))
 
 pub loop-i-preserved : goal.loop-i-preserved
 loop-i-preserved c = seeking_on c.loop-i.invariant (search rules) (le-ltb _ _ c.if-left-i-gt0.false)

@@ -21,11 +21,10 @@ returns-in_default c =
     c.list_refusal.ensures)
 
 pub load-requires : goal.load-requires
-load-requires c =
-    (
-      ready_read _ _ c.requires c.make_plan-plan.ensures,
-      list_listed _ _ _ c.requires c.check_list-checked.ensures c.in-Legal.is,
-    )
+load-requires c = (
+  ready_read _ _ c.requires c.make_plan-plan.ensures,
+  list_listed _ _ _ c.requires c.check_list-checked.ensures c.in-Legal.is,
+)
 
 pub returns : goal.returns
 unfolding load_asked

@@ -24,11 +24,10 @@ returns-in_default c =
     c.list_refusal.ensures)
 
 pub load-start-requires : goal.load-start-requires
-load-start-requires c =
-    (
-      ready_read _ _ c.requires c.make_plan-plan.ensures,
-      list_listed _ _ _ c.requires c.check_list-checked.ensures c.in-Legal.is,
-    )
+load-start-requires c = (
+  ready_read _ _ c.requires c.make_plan-plan.ensures,
+  list_listed _ _ _ c.requires c.check_list-checked.ensures c.in-Legal.is,
+)
 
 pub returns : goal.returns
 unfolding replay_asked

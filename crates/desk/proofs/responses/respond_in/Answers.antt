@@ -36,11 +36,10 @@ returns-then-index-shape c =
     c.is_missing.ensures c.if-is_missing.false c.first_above-index.ensures (search rules))
 
 pub respond-requires : goal.respond-requires
-respond-requires c =
-    (
-      ready_read _ _ c.requires c.make_plan-plan.ensures,
-      has_frame _ _ c.requires _ _ c.is_missing.ensures c.if-is_missing.false,
-    )
+respond-requires c = (
+  ready_read _ _ c.requires c.make_plan-plan.ensures,
+  has_frame _ _ c.requires _ _ c.is_missing.ensures c.if-is_missing.false,
+)
 
 pub returns : goal.returns
 returns c =

@@ -1,6 +1,5 @@
 -- The answers that `count_all` is asked for.
 -- Assumes nothing.
-use Prim.Native.Nat.{◌-◌}
 use mathlib.Core.Path.{refl}
 use Rattle.std.proofs.Common.{rules}
 use Rattle.laws.proofs.Fill.{filled_none, filled_turn, filled_whole}

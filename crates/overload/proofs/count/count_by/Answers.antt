@@ -15,10 +15,12 @@ loop-left-init c =
     counting_start (good.proper c.args.k (search rules)) _ _ (search rules)
 
 pub loop-left-smaller : goal.loop-left-smaller
-loop-left-smaller c = counting_less c.loop-left.invariant c.frame_at-x.result (search rules) (search rules) (search rules)
+loop-left-smaller c =
+    counting_less c.loop-left.invariant c.frame_at-x.result (search rules) (search rules) (search rules)
 
 pub loop-left-preserved : goal.loop-left-preserved
-loop-left-preserved c = counting_on c.loop-left.invariant c.count_frames-frames.result c.frame_at-x.result (search rules)
+loop-left-preserved c =
+    counting_on c.loop-left.invariant c.count_frames-frames.result c.frame_at-x.result (search rules)
 
 pub returns : goal.returns
 returns c = counting_end c.loop-left.invariant (search rules)

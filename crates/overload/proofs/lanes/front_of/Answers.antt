@@ -1,6 +1,5 @@
 -- The answers that `front_of` is asked for.
 -- Assumes nothing.
-use Prim.Native.Nat.{◌-◌}
 use Rattle.std.proofs.Common.{rules}
 use Rattle.overload.proofs.FrontLaws.{front_start, front_low, front_turn, front_end}
 use Rattle.overload.proofs.lanes.front_of.Goals as goal

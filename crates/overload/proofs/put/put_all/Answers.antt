@@ -1,6 +1,5 @@
 -- The answers that `put_all` is asked for.
 -- Assumes nothing.
-use Prim.Native.Nat.{◌-◌}
 use Rattle.std.proofs.Common.{rules}
 use Rattle.overload.proofs.PutLaws.{putting_start, putting_few, putting_lent, putting_low, putting_movable, putting_turn, putting_end}
 use Rattle.overload.proofs.put.put_all.Goals as goal

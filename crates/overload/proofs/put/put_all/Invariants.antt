@@ -7,7 +7,9 @@ use Rattle.overload.proofs.PutLaws.{Putting}
 use Rattle.overload.proofs.put.put_all.Given as goal
 
 abbrev pub invariant-loop-i : goal.invariant-loop-i
-invariant-loop-i l = Putting l.s l.plan (runs_of l.initial.lanes.frame l.initial.lanes.left l.initial.lanes.arrival) l.n l.initial.out l.out l.lanes l.at l.i
+invariant-loop-i l =
+    let first = l.initial.lanes in
+    Putting l.s l.plan (runs_of first.frame first.left first.arrival) l.n l.initial.out l.out l.lanes l.at l.i
 
 abbrev pub decreases-loop-i : goal.decreases-loop-i
 decreases-loop-i l = l.n - l.i

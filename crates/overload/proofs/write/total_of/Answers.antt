@@ -1,6 +1,5 @@
 -- The answers that `total_of` is asked for.
 -- Assumes nothing.
-use Prim.Native.Nat.{◌-◌}
 use Rattle.std.proofs.Common.{rules}
 use Rattle.laws.proofs.Adding.{adding_none, adding_on}
 use Rattle.overload.proofs.ArrayTotalLaws.{many_added}

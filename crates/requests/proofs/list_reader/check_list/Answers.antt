@@ -1,6 +1,5 @@
 -- The answers that `requests::list_reader::check_list` is asked for.
 -- Assumes nothing.
-use Prim.Native.Nat.{◌-◌}
 use mathlib.Core.Path.{sym, ◌∙◌}
 use Rattle.std.proofs.Common.{rules}
 use Rattle.laws.proofs.ReaderLaws.{read_short, reads_start, reads_turn, reads_stopped, reads_whole}
@@ -10,7 +9,8 @@ use Rattle.requests.proofs.CheckLaws.{check_stopped, check_whole}
 use Rattle.requests.proofs.list_reader.check_list.Goals as goal
 
 pub returns-then-is_bad_list_length : goal.returns-then-is_bad_list_length
-returns-then-is_bad_list_length c = check_stopped _ _ (read_short _ (sym c.is_bad_list_length.ensures ∙ c.if-is_bad_list_length.true))
+returns-then-is_bad_list_length c =
+    check_stopped _ _ (read_short _ (sym c.is_bad_list_length.ensures ∙ c.if-is_bad_list_length.true))
 
 pub loop-i-init : goal.loop-i-init
 loop-i-init c = reads_start _ c.is_bad_list_length.ensures c.if-is_bad_list_length.false

@@ -1,6 +1,5 @@
 -- The answers that `recur` is asked for.
 -- Assumes nothing.
-use Prim.Native.Nat.{◌-◌}
 use native.Mathlib.Omega.{arith}
 use Rattle.std.proofs.Common.{rules}
 use Rattle.model.proofs.HigherLaws.{over_never_falls}
@@ -30,7 +29,8 @@ loop-value-smaller c =
 pub loop-value-preserved : goal.loop-value-preserved
 loop-value-preserved c =
     let share = c.add_shares.ensures in
-    recurring_on c.loop-value.invariant share.is (search rules) share.at_most (over_never_falls _ _) c.if-next-value.false
+    recurring_on c.loop-value.invariant share.is (search rules) share.at_most (over_never_falls _ _)
+    c.if-next-value.false
 
 -- the value passes `end`
 pub returns : goal.returns

@@ -1,6 +1,5 @@
 -- The answers that `add_shares` is asked for.
 -- Assumes nothing.
-use Prim.Native.Nat.{◌-◌}
 use native.Mathlib.Omega.{arith}
 use Rattle.std.proofs.Common.{rules}
 use Rattle.laws.proofs.Adding.{adding_none, adding_room, adding_on}

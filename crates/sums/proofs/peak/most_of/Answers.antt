@@ -1,6 +1,5 @@
 -- The answers that `most_of` is asked for.
 -- Assumes nothing.
-use Prim.Native.Nat.{◌-◌}
 use Rattle.std.proofs.Common.{rules}
 use native.Mathlib.Omega.{arith}
 use Rattle.table.specs.TableOf.{task_of}
@@ -19,7 +18,8 @@ loop-start-smaller c = omega arith
 
 pub loop-start-preserved : goal.loop-start-preserved
 unfolding task_of
-loop-start-preserved c = trying_on c.loop-start.invariant c.count_from-sum.result (search rules) (search rules) (search rules)
+loop-start-preserved c =
+    trying_on c.loop-start.invariant c.count_from-sum.result (search rules) (search rules) (search rules)
 
 pub returns : goal.returns
 unfolding task_of

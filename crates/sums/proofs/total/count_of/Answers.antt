@@ -9,12 +9,12 @@ pub place_of-place-requires : goal.place_of-place-requires
 place_of-place-requires c = (c.requires.0, omega (arith, ready_tasks c.requires.0, c.requires.1.task))
 
 pub count_from-requires : goal.count_from-requires
-count_from-requires c =
-    (
-      task_stands c.requires.0 c.shared_slice_known-1.given c.args.k (omega (arith, ready_tasks c.requires.0, c.requires.1.task))
-          c.place_of-place.ensures c.args.t c.requires.2,
-      omega (arith, c.requires.1.frame, (place_frames c.place_of-place.ensures).is),
-    )
+count_from-requires c = (
+  task_stands c.requires.0 c.shared_slice_known-1.given c.args.k
+      (omega (arith, ready_tasks c.requires.0, c.requires.1.task))
+      c.place_of-place.ensures c.args.t c.requires.2,
+  omega (arith, c.requires.1.frame, (place_frames c.place_of-place.ensures).is),
+)
 
 pub returns : goal.returns
 returns c = task_counted c.place_of-place.ensures c.count_from.ensures

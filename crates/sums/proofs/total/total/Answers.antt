@@ -1,6 +1,5 @@
 -- The answers that `total` is asked for.
 -- Assumes nothing.
-use Prim.Native.Nat.{◌-◌}
 use native.Mathlib.Omega.{arith}
 use Rattle.laws.proofs.Adding.{adding_none, adding_room, adding_on}
 use Rattle.table.proofs.ReadyLaws.{ready_tasks, ready_few}

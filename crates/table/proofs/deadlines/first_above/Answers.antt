@@ -1,9 +1,7 @@
 -- The answers that `first_above` is asked for.
 -- Assumes nothing.
-use Prim.Native.Nat.{◌-◌}
 use Rattle.std.proofs.Common.{rules}
 use Rattle.laws.proofs.SearchLaws.{seeking_start}
-use Rattle.table.specs.Deadlines.{above}
 use Rattle.table.proofs.DeadlineLaws.{above_hit, above_on, above_end}
 use Rattle.table.proofs.deadlines.first_above.Goals as goal
 

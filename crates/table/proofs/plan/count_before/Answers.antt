@@ -1,6 +1,5 @@
 -- The answers that `table::plan::count_before` is asked for.
 -- Assumes nothing.
-use Prim.Native.Nat.{◌-◌}
 use Rattle.std.proofs.Common.{rules}
 use Rattle.table.proofs.Counting.{counts_start, counts_turn, counts_done}
 use Rattle.table.proofs.plan.count_before.Goals as goal

@@ -1,6 +1,5 @@
 -- The answers that `table::reader::read_table` is asked for.
 -- Assumes nothing.
-use Prim.Native.Nat.{◌-◌}
 use mathlib.Core.Path.{sym, ◌∙◌}
 use Rattle.std.proofs.Common.{rules}
 use Rattle.laws.proofs.ReaderLaws.{read_short, reads_stopped, reads_whole}
@@ -9,7 +8,8 @@ use Rattle.table.proofs.ReadLaws.{reading_stopped, reading_whole}
 use Rattle.table.proofs.reader.read_table.Goals as goal
 
 pub returns-then-is_bad_table_length : goal.returns-then-is_bad_table_length
-returns-then-is_bad_table_length c = reading_stopped _ (read_short _ (sym c.is_bad_table_length.ensures ∙ c.if-is_bad_table_length.true))
+returns-then-is_bad_table_length c =
+    reading_stopped _ (read_short _ (sym c.is_bad_table_length.ensures ∙ c.if-is_bad_table_length.true))
 
 pub loop-i-init : goal.loop-i-init
 loop-i-init c = few_start _ c.is_bad_table_length.ensures c.if-is_bad_table_length.false

@@ -3,7 +3,7 @@
 -- Assumes nothing.
 use Prim.Native.Nat.{◌-◌}
 use Rattle.laws.proofs.Fill.{Filled}
-use Rattle.model.specs.Verdict.{start_in, starts}
+use Rattle.model.specs.Verdict.{start_in}
 use Rattle.table.specs.TableOf.{table_of}
 use Rattle.verdict.proofs.starts.starts_at.Given as goal
 

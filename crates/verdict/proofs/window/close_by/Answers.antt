@@ -1,11 +1,10 @@
 -- The answers that `close_by` is asked for.
 -- Assumes nothing.
-use Prim.Native.Nat.{◌-◌}
 use mathlib.Core.Path.{ap}
 use native.Mathlib.Omega.{arith}
 use Rattle.std.proofs.Common.{rules}
 use Rattle.laws.proofs.SearchLaws.{seeking_start, seeking_hit, seeking_on, seeking_end}
-use Rattle.model.specs.Verdict.{closes, closing_window}
+use Rattle.model.specs.Verdict.{closing_window}
 use Rattle.model.proofs.ClosingLaws.{closes_yes, closes_no}
 use Rattle.sums.proofs.TotalLaws.{work_is}
 use Rattle.verdict.specs.VerdictWritten.{closing_of}

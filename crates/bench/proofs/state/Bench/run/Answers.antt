@@ -1,6 +1,5 @@
 -- The answers that `run` is asked for.
 -- Assumes nothing.
-use Prim.Native.Nat.{◌-◌}
 use Rattle.std.proofs.Common.{rules}
 use Rattle.model.specs.Replay.{last_tick}
 use Rattle.bench.proofs.TickLaws.{tick_stopped}

@@ -16,7 +16,8 @@ returns-then-t-gt-LAST_TICK c = sym (tick_past _ (search rules))
 
 pub returns-then-late-lt-MOST_REQUESTS : goal.returns-then-late-lt-MOST_REQUESTS
 unfolding last_tick
-returns-then-late-lt-MOST_REQUESTS c = c.stop.ensures ∙ sym (tick_missed (search rules) (late_found _ _ (search rules) (search rules)))
+returns-then-late-lt-MOST_REQUESTS c =
+    c.stop.ensures ∙ sym (tick_missed (search rules) (late_found _ _ (search rules) (search rules)))
 
 pub returns-then-first_left-ge-MOST_REQUESTS : goal.returns-then-first_left-ge-MOST_REQUESTS
 unfolding last_tick

@@ -97,7 +97,8 @@ class Function:
 def paths(f, body, place, aliases):
     """Rewrites the paths that begin at c, or at a name that stands for a step above it."""
     out, i = [], 0
-    token = re.compile(r"(?<![\w.'₀-])(" + "|".join(re.escape(a) for a in sorted(aliases, key=len, reverse=True)) + r")((?:\.[^\s(){}\[\];,:.]+)*)(?![\w-])")
+    names = "|".join(re.escape(a) for a in sorted(aliases, key=len, reverse=True))
+    token = re.compile(r"(?<![\w.'₀-])(" + names + r")((?:\.[^\s(){}\[\];,:.]+)*)(?![\w-])")
 
     def one(m):
         at = aliases[m.group(1)]
@@ -264,7 +265,8 @@ def turn(path, key, it, crate, where):
         # the invariants and measures stand first
         rest = [a for a in rest if not re.match(r"(invariant|decreases)-", a)]
         if len(rest) != len(f.needs):
-            f.said.append(f"tie.spec has {len(rest)} answers, and {len(f.needs)} goals are asked: {[n for _, n in f.needs]}")
+            asked = [n for _, n in f.needs]
+            f.said.append(f"tie.spec has {len(rest)} answers, and {len(asked)} goals are asked: {asked}")
             for a in rest:
                 if a.startswith("(") and "search rules)" not in a:
                     f.said.append("  inline: " + " ".join(a.split()))
@@ -298,7 +300,8 @@ def turn(path, key, it, crate, where):
         body = "\n\n".join(texts)
         u = used(uses, body) + [f"use {base}.Goals as goal"]
         fn = re.search(r"`([^`]+)`", title)
-        head2 = head if not inv else [f"-- The answers that `{fn.group(1) if fn else where}` is asked for.", "-- Assumes nothing."]
+        own = [f"-- The answers that `{fn.group(1) if fn else where}` is asked for.", "-- Assumes nothing."]
+        head2 = head if not inv else own
         open(os.path.join(folder, "Answers.antt"), "w").write("\n".join(head2 + fix(u)) + "\n\n" + body + "\n")
     elif helpers:
         f.said.append("helpers without answers: dropped")

@@ -51,7 +51,7 @@ slots_turn f i {v} room is =
             | inl later ↦ get_or-set_other (slots_of i f) i k v 0 (λ same. omega arith)
                 ∙ slots_past i f k more
                 ∙ sym (slots_past (i + 1) f k (omega arith))
-            | inr same ↦ let k-is : k ≡ i = omega arith in rw k-is here
+            | inr same ↦ let k_is : k ≡ i = omega arith in rw k_is here
           ]
         ]
 

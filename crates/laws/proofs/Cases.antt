@@ -26,8 +26,8 @@ below_suc P n each here j below =
 
 -- neither of two numbers is the lower
 pub neither_lower : (a b : ℕ) → (a < b → ⊥) → (b < a → ⊥) → a ≡ b
-neither_lower a b not-less not_more =
+neither_lower a b not_less not_more =
     elim (lt_or_le a b) [
-      | inl less ↦ absurd (not-less less)
+      | inl less ↦ absurd (not_less less)
       | inr most ↦ elim (lt_or_le b a) [ inl more ↦ absurd (not_more more) | inr least ↦ omega arith ]
     ]

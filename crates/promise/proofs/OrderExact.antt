@@ -51,7 +51,7 @@ module _ {A : Type 0} (s : List ℕ) (order : TestOrder) (ask : Table → A)
           elim (keeps_or_breaks s s order (right well)) [
             | inl keeps ↦
                 let same = climb_kept refused s s answer order (right well) keeps in
-                let value-is : value ≡ ask (table_of s) = cc in (well, value-is, keeps)
+                let value_is : value ≡ ask (table_of s) = cc in (well, value_is, keeps)
             | inr (number, index, breaks) ↦
                 let refuses = climb_broken refused s s answer order number index (right well) breaks in
                 let apart : ◌≡◌ {A = ℕ} 0 1 = cc in absurd (omega arith)

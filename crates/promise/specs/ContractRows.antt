@@ -1,8 +1,8 @@
--- What the contract of each exported function asks of its caller and allows it to answer, by the question that it is
--- asked. The contracts are the checker's own: `Asked` is what a function requires, `Learnt` what its caller is told of
--- the arguments, the answer and what the arguments are at the return. A contract that changes changes here by itself.
--- The reference `other` is the buffer that the question is asked with, or has the list that it is asked with, as a
--- reference that only reads; it is unused by a question with neither.
+-- What the contract of each function of the desk's floor asks of its caller and allows it to answer, by the question
+-- that it is asked. The contracts are the checker's own: `Asked` is what a function requires, `Learnt` what its caller
+-- is told of the arguments, the answer and what the arguments are at the return. A contract that changes changes here
+-- by itself. The reference `other` is the buffer that the question is asked with, or has the list that it is asked
+-- with, as a reference that only reads; it is unused by a question with neither.
 -- Assumes nothing.
 use Rattle.std.specs.Prelude.{◌≡◌, List, [], ℕ}
 use base.Fml.{Lft}

@@ -1,5 +1,5 @@
 -- Refusal 8: "some frame of the table has D above its P", carrying the "first such record". Of frames and not of
--- records: model/Request.Frames-within.
+-- records: model/Request.FramesWithin.
 -- Assumes nothing.
 use Rattle.std.specs.Prelude.{Bool, List, ℕ, ◌≤◌, ◌<◌, ltb}
 use Rattle.laws.specs.Search.{Found, least_from}

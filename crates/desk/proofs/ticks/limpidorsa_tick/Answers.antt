@@ -7,7 +7,7 @@ use Rattle.desk.proofs.FlatTickLaws.{flat_tick_stopped, flat_tick_past, flat_tic
 use Rattle.desk.proofs.ticks.limpidorsa_tick.Goals as goal
 
 pub returns-then-state-ne-RUNNING : goal.returns-then-state-ne-RUNNING
-returns-then-state-ne-RUNNING c = flat_tick_stopped _ c.if-state-ne-RUNNING.true
+returns-then-state-ne-RUNNING c = flat_tick_stopped _ (search rules)
 
 pub returns-then-state-gt-LAST_TICK : goal.returns-then-state-gt-LAST_TICK
 unfolding last_tick

@@ -35,7 +35,7 @@ pub list_size-requires : goal.list_size-requires
 unfolding horizon
 list_size-requires c =
     writer_asked _ _ c.requires c.judge_to-judged.ensures c.in-Overloaded.is
-    (ready_read _ _ c.requires c.make_plan-plan.ensures) c.shared_slice_known-1.given
+    (ready_read _ _ c.requires c.make_plan-plan.ensures) (search rules)
 
 pub returns : goal.returns
 unfolding horizon flat_written

@@ -26,7 +26,7 @@ pub write_list-requires : goal.write_list-requires
 unfolding horizon
 write_list-requires c =
     writer_asked _ _ c.requires c.judge_to-judged.ensures c.in-Overloaded.is
-    (ready_read _ _ c.requires c.make_plan-plan.ensures) c.shared_slice_known-1.given
+    (ready_read _ _ c.requires c.make_plan-plan.ensures) (search rules)
 
 pub returns : goal.returns
 unfolding horizon

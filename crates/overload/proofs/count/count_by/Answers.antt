@@ -11,7 +11,7 @@ count_frames-frames-requires c = (search rules, omega (arith, ready_tasks c.requ
 
 pub loop-left-init : goal.loop-left-init
 loop-left-init c =
-    let good = ready_proper c.requires.0 c.shared_slice_known-1.given in
+    let good = ready_proper c.requires.0 (search rules) in
     counting_start (good.proper c.args.k (search rules)) _ _ (search rules)
 
 pub loop-left-smaller : goal.loop-left-smaller

@@ -2,6 +2,7 @@
 -- Assumes nothing.
 use mathlib.Core.Path.{sym}
 use native.Mathlib.Omega.{arith}
+use Rattle.std.proofs.Common.{rules}
 use Rattle.table.proofs.ReadyLaws.{ready_tasks, ready_few}
 use Rattle.overload.proofs.GatheredLaws.{Gathered, gathered_long}
 use Rattle.overload.proofs.write.list_size.Goals as goal
@@ -14,7 +15,7 @@ returns c =
     let all : Gathered _ _ _ _ _ _ =
     record {
       asked = c.requires;
-      bytes = c.shared_slice_known-1.given;
+      bytes = search rules;
       many_are = c.count_all-many.ensures;
       total = c.total_of.ensures.is;
     } in

@@ -1,6 +1,7 @@
 -- `share_of` meets its contract: the sum from the peak frame, which is the start of the most work in one tick.
 -- Assumes nothing.
 use native.Mathlib.Omega.{arith}
+use Rattle.std.proofs.Common.{rules}
 use Rattle.table.proofs.ReadyLaws.{ready_here, ready_proper}
 use Rattle.response.proofs.ShareWalkLaws.{share_counted}
 use Rattle.response.proofs.share.share_of.Goals as goal
@@ -13,5 +14,5 @@ count_of-requires c =
 pub returns : goal.returns
 returns c =
     let here = ready_here c.requires.0 c.args.k c.requires.1 in
-    share_counted ((ready_proper c.requires.0 c.shared_slice_known-1.given).proper c.args.k here)
+    share_counted ((ready_proper c.requires.0 (search rules)).proper c.args.k here)
     c.peak_of-peak.ensures c.count_of.ensures

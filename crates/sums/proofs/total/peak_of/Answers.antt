@@ -2,12 +2,13 @@
 -- or its work.
 -- Assumes nothing.
 use native.Mathlib.Omega.{arith}
+use Rattle.std.proofs.Common.{rules}
 use Rattle.sums.proofs.PeakReady.{task_stands, task_peaks}
 use Rattle.sums.proofs.total.peak_of.Goals as goal
 
 pub most_of-requires : goal.most_of-requires
 most_of-requires c =
-    task_stands c.requires.0 c.shared_slice_known-1.given c.args.k c.requires.1
+    task_stands c.requires.0 (search rules) c.args.k c.requires.1
     c.place_of-place.ensures c.args.t (omega (arith, c.requires.2))
 
 pub returns : goal.returns

@@ -13,14 +13,14 @@ use Rattle.verdict.proofs.judge.judge_to.Goals as goal
 -- an overload at t
 pub returns-then-t-asked : goal.returns-then-t-asked
 returns-then-t-asked c =
-    let good = ready_proper c.requires.0 c.shared_slice_known-1.given in
+    let good = ready_proper c.requires.0 (search rules) in
     let demands = demands_are c.total-asked.ensures in
     c.overload_at.ensures ∙ ap judged_of (walking_over good _ c.loop-t.invariant (search rules) (omega arith))
 
 -- t closes
 pub returns-then-work-t : goal.returns-then-work-t
 returns-then-work-t c =
-    let good = ready_proper c.requires.0 c.shared_slice_known-1.given in
+    let good = ready_proper c.requires.0 (search rules) in
     let tried : WalkingTurn (table_of c.args.s.now) c.args.limit c.loop-t.t c.loop-t.low c.loop-t.at
     c.total-asked.result c.lesser-low.result c.first_low-at.result =
     record {
@@ -35,7 +35,7 @@ returns-then-work-t c =
 
 pub loop-t-preserved : goal.loop-t-preserved
 loop-t-preserved c =
-    let good = ready_proper c.requires.0 c.shared_slice_known-1.given in
+    let good = ready_proper c.requires.0 (search rules) in
     let tried : WalkingTurn (table_of c.args.s.now) c.args.limit c.loop-t.t c.loop-t.low c.loop-t.at
     c.total-asked.result c.lesser-low.result c.first_low-at.result =
     record {
@@ -51,8 +51,8 @@ loop-t-preserved c =
 -- no t is left
 pub returns : goal.returns
 returns c =
-    let good = ready_proper c.requires.0 c.shared_slice_known-1.given in
+    let good = ready_proper c.requires.0 (search rules) in
     ap judged_of (walking_end good _ c.loop-t.invariant (search rules))
 
 pub loop-t-init : goal.loop-t-init
-loop-t-init c = walking_start (ready_proper c.requires.0 c.shared_slice_known-1.given) _
+loop-t-init c = walking_start (ready_proper c.requires.0 (search rules)) _

@@ -12,7 +12,7 @@ pub overflow_cast-result : goal.overflow_cast-result
 overflow_cast-result c =
     omega (
       arith,
-      task_start c.requires.0 c.shared_slice_known-1.given c.args.k (search rules)
+      task_start c.requires.0 (search rules) c.args.k (search rules)
           c.peak_of-peak.ensures,
     )
 

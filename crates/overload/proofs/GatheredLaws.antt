@@ -33,7 +33,7 @@ use Rattle.place.proofs.PlaceLaws.{catches_room, wrote_refused, wrote_whole}
 use Rattle.requests.specs.Entry.{entry_size, bytes_of}
 use Rattle.sums.specs.Sized.{ceiling}
 use Rattle.requests.proofs.BytesLaws.{bytes_length, bytes_same}
-use Rattle.overload.specs.Counts.{Asked, Totalled, many_in, task_counts}
+use Rattle.overload.specs.Counts.{Asked, many_in, task_counts}
 use Rattle.overload.specs.Lanes.{runs_of, Puts}
 
 pub record Gathered (s : List ℕ) (plan : Plan) (first : List ℕ) (t : ℕ) (many : List ℕ) (n : ℕ) : Type 0 where
@@ -107,17 +107,6 @@ pub record Tested (s : List ℕ) (plan : Plan) (first : List ℕ) (t : ℕ) (man
     (buffer : List ℕ) (place : ℕ) (none : Bool) : Type 0 where
   pub gathered : Gathered s plan first t many n
   pub none_is : none ≡ no_room (length buffer) place (n * entry_size)
-
--- from what the writer asks and what the parts that it called ensure
-pub when_tested : {s : List ℕ} {plan : Plan} {first : List ℕ} {t : ℕ} {many : List ℕ} {n : ℕ} {buffer : List ℕ}
-    {place : ℕ} {none : Bool} → Asked s plan first t → Bytes s → many ≡ task_counts (table_of s) t
-    → Totalled many plan.tasks n → none ≡ no_room (length buffer) place (n * entry_size)
-    → Tested s plan first t many n buffer place none
-when_tested asked bytes many_are total none_is =
-    record {
-      gathered = record { asked = asked; bytes = bytes; many_are = many_are; total = total.is };
-      none_is = none_is;
-    }
 
 module _ {s : List ℕ} {plan : Plan} {first : List ℕ} {t : ℕ} {many : List ℕ} {n : ℕ} {buffer : List ℕ} {place : ℕ}
     {none : Bool} (tested : Tested s plan first t many n buffer place none) where

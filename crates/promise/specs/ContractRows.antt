@@ -30,8 +30,9 @@ Slice = Bor (List ℕ)
 abbrev pub Buffer : Type 0
 Buffer = MutBor (List ℕ)
 
--- the two at one place: a reference that reads what another may write, and the other way round, where the checker keeps
--- track of the bytes under whatever name. So every slice is a buffer read
+-- the same bytes through a reference that only reads; and through one that may write, under whatever name the checker
+-- keeps track of them by. `read_only` of `lent` is the slice itself: so what is said of every buffer as it is read is
+-- said of every slice
 abbrev pub read_only : Buffer → Slice
 read_only x = record { ref_ptr = x.ref_ptr; now = x.now }
 

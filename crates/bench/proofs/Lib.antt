@@ -1,5 +1,3 @@
-pub mod NextLaws
-pub mod ScanLaws
 pub mod TickLaws
 pub mod Ticking
 pub mod StoppingRun

@@ -1,31 +1,19 @@
--- The loop that loads the bench: before request i the slots below i hold their requests, and the others 0.
+-- The loop that loads the bench: before request i it is loaded with the first i jobs.
 -- Assumes nothing.
-use mathlib.Core.Path.{◌≡◌, refl, sym, ◌∙◌}
-use mathlib.Core.Logic.{inl, inr}
-use mathlib.Core.List.{List}
-use Prim.Native.Nat.{ℕ, ◌+◌, ◌*◌, ◌≤◌, ◌<◌}
+use mathlib.Core.Path.{◌≡◌, sym, ◌∙◌, ap}
+use Prim.Native.Nat.{ℕ, ◌+◌, ◌<◌}
 use native.Mathlib.Omega.{arith}
-use lib.ListN.{length, get_or, set, replicate, length-set}
-use lib.Seq.{ext_get_or, get_or-set_same, get_or-set_other}
+use lib.ListN.{length, get_or, set, length-set}
+use lib.Seq.{ext_get_or}
+use Rattle.std.proofs.lemmas.Grind.{common_steps}
 use Rattle.laws.specs.Sums.{tabulate}
-use Rattle.laws.proofs.Cases.{lt_or_le}
-use Rattle.model.specs.Jobs.{jobs_of}
-use Rattle.table.specs.TableOf.{table_of}
-use Rattle.requests.specs.declared.entry.Entry.{Entry}
-use Rattle.requests.specs.Entry.{entry_size, entries, most_requests, entry_of, list_of}
-use Rattle.requests.specs.ListRules.{Placed}
-use Rattle.requests.specs.Accepted.{Listed}
-use Rattle.requests.proofs.AcceptedLaws.{accepted_few, entry_room, accepted_placed}
-use Rattle.bench.specs.declared.load.Slot.{Slot}
-use Rattle.bench.specs.declared.state.Outcome.TheVariants.{Running}
-use Rattle.bench.specs.Loaded.{slots_of, loaded, no_jobs, SlotIs}
+use Rattle.model.specs.Jobs.{Jobs}
+use Rattle.requests.specs.Entry.{most_requests}
+use Rattle.bench.specs.declared.state.Bench.{Bench}
+use Rattle.bench.specs.Loaded.{slots_of, loaded, no_jobs}
 use Rattle.bench.proofs.LoadedLaws.{slots_length, slots_at, slots_past}
 
 -- ---- one array
-
-pub slots_none : (f : ℕ → ℕ) → replicate most_requests 0 ≡ slots_of 0 f
-unfolding slots_of tabulate
-slots_none f = refl
 
 pub slots_turn : (f : ℕ → ℕ) (i : ℕ) {v : ℕ} → i < most_requests → v ≡ f i → set (slots_of i f) i v ≡ slots_of (i + 1) f
 slots_turn f i {v} room is =
@@ -34,99 +22,57 @@ slots_turn f i {v} room is =
     long : length (set (slots_of i f) i v) ≡ most_requests
     long = length-set (slots_of i f) i v ∙ slots_length i f
 
-    here : get_or (set (slots_of i f) i v) i 0 ≡ get_or (slots_of (i + 1) f) i 0
-    here =
-        get_or-set_same (slots_of i f) i v 0 (omega (arith, slots_length i f))
-        ∙ is
-        ∙ sym (slots_at (i + 1) f (omega arith) i (omega arith))
-
     each : (k : ℕ) → k < length (set (slots_of i f) i v)
         → get_or (set (slots_of i f) i v) k 0 ≡ get_or (slots_of (i + 1) f) k 0
-    each k within =
-        elim (lt_or_le k i) [
-          | inl less ↦ get_or-set_other (slots_of i f) i k v 0 (λ same. omega arith)
-              ∙ slots_at i f (omega arith) k less
-              ∙ sym (slots_at (i + 1) f (omega arith) k (omega arith))
-          | inr more ↦ elim (lt_or_le i k) [
-            | inl later ↦ get_or-set_other (slots_of i f) i k v 0 (λ same. omega arith)
-                ∙ slots_past i f k more
-                ∙ sym (slots_past (i + 1) f k (omega arith))
-            | inr same ↦ let k_is : k ≡ i = omega arith in rw k_is here
-          ]
-        ]
+    each k within = grind (arith, common_steps, slots_at, slots_past, slots_length)
 
--- ---- the four arrays
+-- ---- the bench
 
-pub record LoadingTo (s list : List ℕ) (n i : ℕ) (left due arrive release task : List ℕ) : Type 0 where
-  pub within : i ≤ n
-  pub few : n ≤ most_requests
-  pub listed : Listed (table_of s) list n
-  pub left_is : left ≡ slots_of i (jobs_of (table_of s) (list_of list)).amount
-  pub due_is : due ≡ slots_of i (jobs_of (table_of s) (list_of list)).due
-  pub arrive_is : arrive ≡ slots_of i (jobs_of (table_of s) (list_of list)).arrive
-  pub release_is : release ≡ slots_of i (jobs_of (table_of s) (list_of list)).release
-  pub task_is : task ≡ slots_of i (jobs_of (table_of s) (list_of list)).task
+-- the first i of the jobs
+abbrev pub first_jobs : ℕ → Jobs → Jobs
+first_jobs i jobs = record jobs { count = i }
 
-pub loading_start : {s list : List ℕ} {n : ℕ} → Listed (table_of s) list n
-    → let none : List ℕ = replicate most_requests 0 in LoadingTo s list n 0 none none none none none
-loading_start {s} {list} listed =
-    let jobs = jobs_of (table_of s) (list_of list) in
-    record {
-      within = omega arith;
-      few = omega (arith, listed.count_is, accepted_few listed.accepted);
-      listed = listed;
-      left_is = slots_none jobs.amount;
-      due_is = slots_none jobs.due;
-      arrive_is = slots_none jobs.arrive;
-      release_is = slots_none jobs.release;
-      task_is = slots_none jobs.task;
-    }
+-- what request i puts into its slot
+pub record SlotIs (jobs : Jobs) (i left due arrive release task : ℕ) : Type 0 where
+  pub left_is : left ≡ jobs.amount i
+  pub due_is : due ≡ jobs.due i
+  pub arrive_is : arrive ≡ jobs.arrive i
+  pub release_is : release ≡ jobs.release i
+  pub task_is : task ≡ jobs.task i
 
-module _ {s list : List ℕ} {n i : ℕ} {left due arrive release task : List ℕ}
-    (so_far : LoadingTo s list n i left due arrive release task) where
-  module _ (more : i < n) where
-    here : i < entries list
-    here = omega (arith, so_far.listed.count_is)
+-- the bench is loaded with the first i jobs
+pub record LoadingTo (jobs : Jobs) (i : ℕ) (b : Bench) : Type 0 where
+  pub bench_is : b ≡ loaded (first_jobs i jobs)
 
-    pub loading_room : (i + 1) * entry_size ≤ length list
-    loading_room = entry_room list i here
+pub loading_start : (jobs : Jobs) {b : Bench} → b ≡ loaded no_jobs → LoadingTo jobs 0 b
+unfolding loaded slots_of tabulate
+loading_start jobs none = record { bench_is = none }
 
-    module _ {x : Entry} (read : x ≡ entry_of list i) where
-      pub loading_placed : Placed s x
-      loading_placed = rw read (accepted_placed so_far.listed.accepted i here)
-
-      pub loading_turn : {slot : Slot} → SlotIs (table_of s) x slot
-          → LoadingTo s list n (i + 1) (set left i slot.left) (set due i slot.due) (set arrive i slot.arrive)
-          (set release i slot.release) (set task i slot.task)
-      loading_turn {slot} is =
-          let jobs = jobs_of (table_of s) (list_of list) in
-          let room : i < most_requests = omega (arith, so_far.few) in
-          let same : SlotIs (table_of s) (entry_of list i) slot = rw read at is in
-          record {
-            within = omega arith;
-            few = so_far.few;
-            listed = so_far.listed;
-            left_is = rw so_far.left_is (slots_turn jobs.amount i room same.left_is);
-            due_is = rw so_far.due_is (slots_turn jobs.due i room same.due_is);
-            arrive_is = rw so_far.arrive_is (slots_turn jobs.arrive i room same.arrive_is);
-            release_is = rw so_far.release_is (slots_turn jobs.release i room same.release_is);
-            task_is = rw so_far.task_is (slots_turn jobs.task i room same.task_is);
-          }
-
-  pub loading_done : n ≤ i
-      → record { tick = 0; left = left; due = due; arrive = arrive; release = release; task = task; outcome = Running }
-      ≡ loaded (jobs_of (table_of s) (list_of list))
+module _ {jobs : Jobs} {i : ℕ} {b : Bench} (so_far : LoadingTo jobs i b) where
+  pub loading_turn : {left due arrive release task : ℕ} → i < most_requests
+      → SlotIs jobs i left due arrive release task
+      → LoadingTo jobs (i + 1) (
+      record b {
+        left = set b.left i left;
+        due = set b.due i due;
+        arrive = set b.arrive i arrive;
+        release = set b.release i release;
+        task = set b.task i task;
+      }
+      )
   unfolding loaded
-  loading_done done =
-      let all : i ≡ (list_of list).count = omega (arith, so_far.within, so_far.listed.count_is) in
-      rw (so_far.left_is, so_far.due_is, so_far.arrive_is, so_far.release_is, so_far.task_is, all)
+  loading_turn room is =
+      record {
+        bench_is =
+            rw (
+              so_far.bench_is,
+              slots_turn jobs.amount i room is.left_is,
+              slots_turn jobs.due i room is.due_is,
+              slots_turn jobs.arrive i room is.arrive_is,
+              slots_turn jobs.release i room is.release_is,
+              slots_turn jobs.task i room is.task_is,
+            );
+      }
 
--- nothing to load
-abbrev zeros : List ℕ
-zeros = replicate most_requests 0
-
-pub loaded_none :
-    record { tick = 0; left = zeros; due = zeros; arrive = zeros; release = zeros; task = zeros; outcome = Running }
-    ≡ loaded no_jobs
-unfolding loaded
-loaded_none = rw (sym (slots_none no_jobs.amount))
+  pub loading_done : i ≡ jobs.count → b ≡ loaded jobs
+  loading_done all = so_far.bench_is ∙ ap (λ n. loaded (first_jobs n jobs)) all

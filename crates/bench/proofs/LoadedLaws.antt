@@ -11,7 +11,7 @@ use lib.ListN.{length, get_or, get_or-eq_default}
 use borrow.Author.Tests.{lt-ltb, le-ltb}
 use Rattle.laws.specs.Sums.{tabulate}
 use Rattle.laws.proofs.Cases.{lt_or_le}
-use Rattle.laws.proofs.Fill.{tabulate_length, tabulate_at}
+use Rattle.laws.proofs.TabulateLaws.{tabulate_length, tabulate_at}
 use Rattle.requests.specs.Entry.{most_requests}
 use Rattle.bench.specs.Loaded.{slots_of}
 

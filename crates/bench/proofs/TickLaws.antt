@@ -33,17 +33,9 @@ module _ {b : Bench} (going : Going b) where
     pub tick_met : first_left b ≡ nowhere → tick_of b ≡ with_outcome b AllMet
     tick_met done = on ∙ ap (turned b nowhere) done
 
-    -- "Otherwise one unit goes to .."
+    -- "Otherwise one unit goes to ..; with none, the tick is idle"
     pub tick_moves : {k : ℕ} → first_left b ≡ at k → tick_of b ≡ moved_on b (less_one b.left (next_in b))
     tick_moves undone = on ∙ ap (turned b nowhere) undone
-
-    module _ {k : ℕ} (undone : first_left b ≡ at k) where
-      pub tick_unit : {n : ℕ} → next_in b ≡ at n → tick_of b ≡ moved_on b (less_one b.left (at n))
-      tick_unit next = tick_moves undone ∙ ap (λ found. moved_on b (less_one b.left found)) next
-
-      -- "with none, the tick is idle"
-      pub tick_idle : next_in b ≡ nowhere → tick_of b ≡ moved_on b b.left
-      tick_idle none = tick_moves undone ∙ ap (λ found. moved_on b (less_one b.left found)) none
 
 -- ---- a bench that has stopped is not running
 

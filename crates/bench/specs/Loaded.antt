@@ -1,13 +1,10 @@
 -- The bench as it is loaded, and what its run answers: document 01, "The replay bench".
 -- Assumes nothing.
-use Rattle.std.specs.Prelude.{cond, ◌≡◌, List, ℕ, suc, ◌+◌, ltb}
+use Rattle.std.specs.Prelude.{cond, List, ℕ, suc, ltb}
 use Rattle.laws.specs.Sums.{tabulate}
-use Rattle.model.specs.Task.{Table}
 use Rattle.model.specs.Jobs.{Jobs}
 use Rattle.model.specs.Replay.{Replayed, missed, all_met, last_tick}
 use Rattle.requests.specs.Entry.{most_requests}
-use Rattle.requests.specs.declared.entry.Entry.{Entry}
-use Rattle.bench.specs.declared.load.Slot.{Slot}
 use Rattle.bench.specs.declared.state.Bench.{Bench}
 use Rattle.bench.specs.declared.state.Outcome.{Outcome}
 use Rattle.bench.specs.declared.state.Outcome.TheVariants.{Running, Missed, AllMet}
@@ -32,14 +29,6 @@ loaded jobs =
 -- nothing to do
 abbrev pub no_jobs : Jobs
 no_jobs = record { count = 0; task = λ k. 0; arrive = λ k. 0; release = λ k. 0; due = λ k. 0; amount = λ k. 0 }
-
--- what request x puts into its slot: the amount, deadline, arrival, release and task of its job
-pub record SlotIs (table : Table) (x : Entry) (r : Slot) : Type 0 where
-  pub left_is : r.left ≡ (table.task x.task).E x.frame
-  pub due_is : r.due ≡ x.arrival + (table.task x.task).D x.frame
-  pub arrive_is : r.arrive ≡ x.arrival
-  pub release_is : r.release ≡ x.arrival
-  pub task_is : r.task ≡ x.task
 
 -- "All runs end by tick 131,070": a state at that tick is still taken
 unfoldable pub run_whole : Bench → Bench

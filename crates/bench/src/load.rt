@@ -1,17 +1,15 @@
 // Loading the bench with a legal request list.
 ghost use Rattle.std.specs.Prelude.{◌≡◌};
 ghost use Rattle.model.specs.Jobs.{jobs_of};
-ghost use Rattle.table.specs.Ready.{Ready};
-ghost use Rattle.table.specs.TableOf.{table_of};
+ghost use Rattle.table.specs.Ready.{table_in};
 ghost use Rattle.requests.specs.Accepted.{Listed};
 ghost use Rattle.requests.specs.Entry.{list_of};
-ghost use Rattle.requests.specs.ListRules.{Placed};
-ghost use Rattle.bench.specs.Loaded.{loaded, no_jobs, SlotIs};
+ghost use Rattle.bench.specs.Loaded.{loaded, no_jobs};
 
 use crate::state::{Bench, Outcome};
-use requests::entry::Entry;
+use requests::entry::entry_at;
 use requests::list_reader::MOST_REQUESTS;
-use table::plan::Plan;
+use table::task_table::TaskTable;
 
 // The bench with nothing to do.
 pub fn empty() -> Bench
@@ -28,59 +26,20 @@ pub fn empty() -> Bench
     }
 }
 
-// What a request puts into its slot.
-#[derive(Clone, Copy)]
-struct Slot {
-    left: u32,
-    due: u32,
-    arrive: u32,
-    release: u32,
-    task: u8,
-}
-
-// A request with its frame's E and D.
-fn slot_of(s: &[u8], plan: Plan, x: Entry) -> Slot
-    requires { Ready s.now plan × Placed s.now x }
-    ensures { SlotIs (table_of s.now) x result }
+// The n requests of a legal list, each with its frame's E and D.
+pub fn load(table: &TaskTable, list: &[u8], n: usize) -> Bench
+    requires { Listed (table_in table.now) list.now n }
+    ensures { result ≡ loaded (jobs_of (table_in table.now) (list_of list.now)) }
 {
-    let frame = table::frame::frame_at(s, plan, x.task as usize, x.frame as usize);
-    Slot {
-        left: frame.e as u32,
-        due: x.arrival + frame.d as u32,
-        arrive: x.arrival,
-        release: x.arrival,
-        task: x.task,
+    let mut bench = empty();
+    for i in 0..n {
+        let x = entry_at(list, i);
+        let frame = table.frame_at(usize::from(x.task), usize::from(x.frame));
+        bench.left[i] = u32::from(frame.e);
+        bench.due[i] = x.arrival + u32::from(frame.d);
+        bench.arrive[i] = x.arrival;
+        bench.release[i] = x.arrival;
+        bench.task[i] = x.task;
     }
-}
-
-// The n requests of a legal list.
-pub fn load<'a, 'b>(s: &'a [u8], plan: Plan, list: &'b [u8], n: usize) -> Bench
-    requires { Ready s.now plan × Listed (table_of s.now) list.now n }
-    ensures { result ≡ loaded (jobs_of (table_of s.now) (list_of list.now)) }
-{
-    let mut left = [0u32; MOST_REQUESTS];
-    let mut due = [0u32; MOST_REQUESTS];
-    let mut arrive = [0u32; MOST_REQUESTS];
-    let mut release = [0u32; MOST_REQUESTS];
-    let mut task = [0u8; MOST_REQUESTS];
-    let mut i: usize = 0;
-    while i < n {
-        let x = requests::entry::entry_at(list, i);
-        let slot = slot_of(s, plan, x);
-        left[i] = slot.left;
-        due[i] = slot.due;
-        arrive[i] = slot.arrive;
-        release[i] = slot.release;
-        task[i] = slot.task;
-        i += 1;
-    }
-    Bench {
-        tick: 0,
-        left,
-        due,
-        arrive,
-        release,
-        task,
-        outcome: Outcome::Running,
-    }
+    bench
 }

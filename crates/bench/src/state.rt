@@ -13,7 +13,8 @@ pub enum Outcome {
 
 // "The bench keeps 128 amounts left": what each request has left, and beside it its deadline, its arrival, the tick
 // from which it may run, and its task; all zero where there is no request. `Missed` names the record, and the tick of a
-// miss or of *all met* is the state's own.
+// miss or of *all met* is the state's own. Five arrays, and not one of structs: C's state lays out the same five, and
+// they go in and out at each tick.
 #[derive(Clone, Copy)]
 pub struct Bench {
     pub tick: u32,

@@ -1,7 +1,6 @@
 pub mod AskLaws
 pub mod LaidLaws
 pub mod ListLaws
-pub mod LoadLaws
 pub mod ResponseWays
 pub mod FlatTickLaws
 pub mod WritingLaws

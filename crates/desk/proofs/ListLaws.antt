@@ -1,48 +1,45 @@
--- The ways through a question about a request list of a table that was read: the list's refusal, then the answer.
+-- The ways through a question about a request list: the table's refusal, the list's, then the answer.
 -- Assumes nothing.
 use Prim.Native.Nat.{ℕ, ◌≤◌}
-use mathlib.Core.Path.{◌≡◌, sym, ap, ◌∙◌}
+use mathlib.Core.Path.{◌≡◌, refl, ap}
 use mathlib.Core.List.{List}
+use Rattle.std.specs.Prelude.{Result, Ok, Err}
 use Rattle.model.specs.Task.{Table}
 use Rattle.model.specs.Request.{Requests}
-use Rattle.model.specs.Answer.{answered, refused}
-use Rattle.table.specs.declared.reader.Shape.{Shape}
-use Rattle.table.specs.declared.reader.Refusal.{Refusal}
-use Rattle.table.specs.declared.reader.Reading.TheVariants as reading
-use Rattle.table.specs.TableReader.{reading_of}
-use Rattle.table.specs.TableOf.{table_of}
-use Rattle.table.proofs.TableReaderExact.{shaped}
-use Rattle.table.proofs.Rising.{few_tasks}
-use Rattle.requests.specs.declared.list_reader.Checked.{Checked}
-use Rattle.requests.specs.declared.list_reader.Checked.TheVariants.{Legal, Refused}
+use Rattle.table.specs.declared.fault.Refusal.{Refusal}
+use Rattle.table.specs.declared.task_table.TaskTable.{TaskTable}
+use Rattle.table.specs.Ready.{table_in}
+use Rattle.table.proofs.ReadyLaws.{table_proper}
 use Rattle.requests.specs.Entry.{list_of}
-use Rattle.requests.specs.ListReader.{check_of, list_refusal}
+use Rattle.requests.specs.ListReader.{check_of}
 use Rattle.requests.specs.Accepted.{Listed}
 use Rattle.requests.proofs.ListReaderExact.{check_count}
 use Rattle.requests.proofs.AcceptedLaws.{listed}
-use Rattle.desk.specs.ListQuestions.{on_list}
+use Rattle.desk.specs.ListQuestions.{on_list, counts}
+use Rattle.desk.specs.Said.{result_of, result_by}
 
-module _ (s list : List ℕ) (shape : Shape) (read : reading_of s ≡ reading.Table shape) where
-  few : (table_of s).tasks ≤ 16
-  few = few_tasks (shaped s shape read).well
+module _ (table : TaskTable) (list : List ℕ) where
+  few : (table_in table).tasks ≤ 16
+  few = (table_proper table).few
 
-  module _ {r : Checked} (is : r ≡ check_of (table_of s) list) where
-    -- the list's refusal is passed on
-    pub list_refused : {A : Type 0} (ask : Table → Requests → A) {y no : Refusal} → r ≡ Refused y → no ≡ list_refusal r
-        → refused no.number no.index ≡ on_list s list ask
-    list_refused ask told taken =
-        ap (λ (x : Refusal). refused x.number x.index) (taken ∙ ap list_refusal told)
-        ∙ rw (read, sym is ∙ told)
+  module _ {n : ℕ} (told : check_of (table_in table) list ≡ Ok n) where
+    pub list_answered : {A B : Type 0} (value : A → B) (ask : Table → Requests → A)
+        → Ok (value (ask (table_in table) (list_of list))) ≡ result_by value (on_list table.bytes.now list ask)
+    list_answered value ask = rw (table.read, told) refl
 
-    module _ {n : ℕ} (told : r ≡ Legal n) where
-      pub list_answered : {A : Type 0} (ask : Table → Requests → A)
-          → answered (ask (table_of s) (list_of list)) ≡ on_list s list ask
-      list_answered ask = rw (read, sym is ∙ told)
+    -- how many records it has
+    pub list_count : n ≡ (list_of list).count
+    list_count = check_count (table_in table) few list n told
 
-      -- how many records it has
-      pub list_count : n ≡ (list_of list).count
-      list_count = check_count (table_of s) few list n (sym is ∙ told)
+    -- a list that passed is one for the bench
+    pub list_listed : Listed (table_in table) list n
+    list_listed = listed (table_in table) few list n told
 
-      -- a list that passed is one for the bench
-      pub list_listed : Listed (table_of s) list n
-      list_listed = listed (table_of s) few list n (sym is ∙ told)
+  -- what the list's own check says is the answer
+  pub list_said : check_of (table_in table) list ≡ result_of (on_list table.bytes.now list counts)
+  list_said = which (check_of (table_in table) list) refl
+    where
+      which : (r : Result ℕ Refusal) → check_of (table_in table) list ≡ r
+          → check_of (table_in table) list ≡ result_of (on_list table.bytes.now list counts)
+      which (Ok n) told = rw (table.read, told) (ap Ok (list_count told))
+      which (Err e) told = rw (table.read, told) refl

@@ -5,7 +5,7 @@
 use Rattle.std.specs.Prelude.{true, false, ℕ, ℤ, pos}
 use Rattle.laws.specs.Search.{Found, at, nowhere}
 use Rattle.model.specs.Answer.{Answer, answered, refused}
-use Rattle.table.specs.declared.reader.Refusal.{Refusal}
+use Rattle.table.specs.declared.fault.Refusal.{Refusal}
 use Rattle.table.specs.declared.reader.Shape as reader
 use Rattle.desk.specs.declared.answers.Shape.{Shape}
 use Rattle.desk.specs.declared.answers.Amount.{Amount}

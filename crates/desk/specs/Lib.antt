@@ -6,4 +6,5 @@ pub mod Flat
 pub mod FlatVerdict
 pub mod FlatList
 pub mod FlatBench
+pub mod Said
 pub mod Laid

@@ -1,14 +1,13 @@
 -- The meaning of each question about a request list, on raw bytes: document 01, "The replay bench" and "When the desk
 -- says no": "Tables are tested first .. or, for a list, length, then records in order, in each record 10 before 11."
 -- Assumes nothing.
-use Rattle.std.specs.Prelude.{ℕ, List}
+use Rattle.std.specs.Prelude.{ℕ, List, Result, Ok, Err}
 use Rattle.model.specs.Task.{Table}
 use Rattle.model.specs.Request.{Requests}
 use Rattle.model.specs.Jobs.{jobs_of}
 use Rattle.model.specs.Replay.{Replayed}
 use Rattle.model.specs.Answer.{Answer, answered, refused}
-use Rattle.requests.specs.declared.list_reader.Checked.{Checked}
-use Rattle.requests.specs.declared.list_reader.Checked.TheVariants as checked
+use Rattle.table.specs.declared.fault.Refusal.{Refusal}
 use Rattle.requests.specs.Entry.{list_of}
 use Rattle.requests.specs.ListReader.{check_of}
 use Rattle.bench.specs.declared.state.Bench.{Bench}
@@ -16,9 +15,9 @@ use Rattle.bench.specs.Loaded.{loaded, replay_of}
 use Rattle.desk.specs.Questions.{on_table}
 
 -- the list's own refusal, 10 or 11; else what is said of a list
-abbrev pub after_check : {A : Type 0} → Checked → Answer A → Answer A
-after_check (checked.Legal n) said = said
-after_check (checked.Refused r) said = refused r.number r.index
+abbrev pub after_check : {A : Type 0} → Result ℕ Refusal → Answer A → Answer A
+after_check (Ok n) said = said
+after_check (Err r) said = refused r.number r.index
 
 abbrev pub by_list : {A : Type 0} → List ℕ → (Table → Requests → A) → Table → Answer A
 by_list list ask table = after_check (check_of table list) (answered (ask table (list_of list)))

@@ -1,6 +1,6 @@
 // The answers: flat structs in C's layout, the refusal in front.
 use crate::limits::MOST_REQUESTS;
-use table::reader::Refusal;
+use table::fault::Refusal;
 
 // Nothing was refused: no refusal has the number 0.
 pub const NONE: Refusal = Refusal {

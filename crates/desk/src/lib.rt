@@ -24,6 +24,9 @@
 pub mod limits;
 // What is answered.
 pub mod answers;
+mod flat;
+mod flat_bench;
+mod flat_verdict;
 // The questions about a table: what it is, demand, work and margin,
 pub mod amounts;
 // its closing window and its verdict,
@@ -34,5 +37,4 @@ pub mod responses;
 pub mod writer;
 // Request lists that are handed in, and the bench that a caller ticks.
 pub mod lists;
-mod refuse;
 pub mod ticks;

@@ -1,69 +1,33 @@
-// The bench's state laid flat, and a tick of it.
+// A tick of the bench's state.
 ghost use Rattle.std.specs.Prelude.{◌≡◌};
-ghost use Rattle.desk.specs.FlatBench.{outcome_number, missed_record, flat_bench, running, flat_tick};
+ghost use Rattle.desk.specs.FlatBench.{running, flat_tick};
 
-use crate::answers::{ALL_MET, MISSED, RUNNING, State};
+use crate::answers::{RUNNING, State};
 use bench::state::{Bench, LAST_TICK, Outcome};
 
-fn outcome_number(outcome: Outcome) -> u8
-    ensures { result ≡ outcome_number outcome }
-{
-    match outcome {
-        Outcome::Running => RUNNING,
-        Outcome::Missed(_) => MISSED,
-        Outcome::AllMet => ALL_MET,
-    }
-}
-
-fn missed_record(outcome: Outcome) -> usize
-    ensures { result ≡ missed_record outcome }
-{
-    match outcome {
-        Outcome::Running => 0,
-        Outcome::Missed(index) => index,
-        Outcome::AllMet => 0,
-    }
-}
-
-// The state of a bench.
-pub fn flat_bench(b: Bench) -> State
-    ensures { result ≡ flat_bench b }
-{
-    let outcome = b.outcome;
-    let left = b.left;
-    let due = b.due;
-    let arrive = b.arrive;
-    let release = b.release;
-    let task = b.task;
-    State {
-        tick: b.tick,
-        outcome: outcome_number(outcome),
-        index: missed_record(outcome),
-        left,
-        due,
-        arrive,
-        release,
-        task,
-    }
-}
-
-// The bench of a state that has not stopped.
-fn running(s: State) -> Bench
-    ensures { result ≡ running s }
-{
-    let left = s.left;
-    let due = s.due;
-    let arrive = s.arrive;
-    let release = s.release;
-    let task = s.task;
-    Bench {
-        tick: s.tick,
-        left,
-        due,
-        arrive,
-        release,
-        task,
-        outcome: Outcome::Running,
+impl State {
+    // The bench of a state that has not stopped.
+    fn running(self) -> Bench
+        ensures { result ≡ running self }
+    {
+        let State {
+            tick,
+            left,
+            due,
+            arrive,
+            release,
+            task,
+            ..
+        } = self;
+        Bench {
+            tick,
+            left,
+            due,
+            arrive,
+            release,
+            task,
+            outcome: Outcome::Running,
+        }
     }
 }
 
@@ -78,5 +42,5 @@ pub fn limpidorsa_tick(state: State) -> State
     if LAST_TICK < state.tick {
         return state;
     }
-    flat_bench(running(state).tick())
+    State::from(state.running().tick())
 }

@@ -1,36 +1,35 @@
 // The overload list: how many bytes it has, and the list written into a lent buffer.
 ghost use Rattle.std.specs.Prelude.{◌≡◌};
-ghost use Rattle.table.specs.TableReader.{reading_of};
-ghost use Rattle.table.specs.declared.reader.Reading.TheVariants.{Table};
-ghost use Rattle.desk.specs.Questions.{size_asked, overload_asked};
+ghost use Rattle.place.specs.Place.{Wrote};
+ghost use Rattle.desk.specs.Orders.{size_order};
+ghost use Rattle.desk.specs.OverloadRules.{list_in};
+ghost use Rattle.desk.specs.Questions.{on_order, sized, size_asked, placed, overload_asked};
 ghost use Rattle.desk.specs.FlatList.{flat_written, FlatWrote};
-ghost use Rattle.desk.specs.Laid.{laid_written};
+ghost use Rattle.desk.specs.Said.{result_of, list_found};
 
-use crate::answers::{NONE, Written};
+use crate::answers::Written;
 use crate::limits::HORIZON;
-use crate::refuse::refuse;
-use table::reader::{Reading, Shape};
-use verdict::judge::Verdict;
+use overload::overload::Overload;
+use table::fault::{Fault, Refusal};
+use table::task_table::TaskTable;
+use verdict::judge::{Verdict, judge_to};
 
-// Of a table that was read.
-fn size_in(table: &[u8], shape: Shape) -> Written
-    requires { reading_of table.now ≡ Table shape }
-    ensures { result ≡ flat_written (size_asked table.now) }
+// The overload that the verdict tells, or 13.
+fn find_overload<'a>(table: &'a TaskTable<'a>) -> Result<Overload<'a>, Refusal>
+    ensures { list_found result ≡ result_of (on_order table.now.bytes.now size_order list_in) }
 {
-    let plan = table::plan::make_plan(table, shape.records, shape.tasks);
-    let judged = verdict::judge::judge_to(table, plan, HORIZON);
-    let said = judged.verdict;
-    let Verdict::Overloaded { t, margin: _ } = said else {
-        return Written {
-            refusal: refuse(13),
-            bytes: 0,
-        };
+    let Verdict::Overloaded { t, starts, .. } = judge_to(table, HORIZON) else {
+        return Err(Fault::NotOverloaded.alone());
     };
-    let starts = judged.starts;
-    Written {
-        refusal: NONE,
-        bytes: overload::write::list_size(table, plan, starts, t),
-    }
+    Ok(Overload { table, t, starts })
+}
+
+fn ask_size(table: &[u8]) -> Result<usize, Refusal>
+    ensures { result ≡ result_of (sized table.now) }
+{
+    let table = TaskTable::read(table)?;
+    let overload = find_overload(&table)?;
+    Ok(overload.list_size())
 }
 
 // How many bytes the overload list of the table has: as many as limpidorsa_overload needs from its place on. Refuses
@@ -38,45 +37,15 @@ fn size_in(table: &[u8], shape: Shape) -> Written
 pub fn limpidorsa_overload_size(table: &[u8]) -> Written
     ensures { result ≡ flat_written (size_asked table.now) }
 {
-    let reading = table::reader::read_table(table);
-    let Reading::Table(shape) = reading else {
-        return Written {
-            refusal: table::reader::table_refusal(reading),
-            bytes: 0,
-        };
-    };
-    size_in(table, shape)
+    Written::from(ask_size(table))
 }
 
-fn lay_written(x: place::written::Written) -> Written
-    ensures { result ≡ laid_written x }
+fn ask_overload(table: &[u8], buffer: &mut [u8], place: usize) -> Result<usize, Refusal>
+    ensures { Wrote buffer.old place (placed table.now buffer.old place) result buffer.new }
 {
-    match x {
-        place::written::Written::Bytes(bytes) => Written {
-            refusal: NONE,
-            bytes,
-        },
-        place::written::Written::Refused(refusal) => Written { refusal, bytes: 0 },
-    }
-}
-
-// Of a table that was read.
-fn write_in<'a, 'b>(table: &'a [u8], shape: Shape, buffer: &'b mut [u8], place: usize) -> Written
-    requires { reading_of table.now ≡ Table shape }
-    ensures { FlatWrote buffer.old place (overload_asked table.now buffer.old place) result
-        buffer.new }
-{
-    let plan = table::plan::make_plan(table, shape.records, shape.tasks);
-    let judged = verdict::judge::judge_to(table, plan, HORIZON);
-    let said = judged.verdict;
-    let Verdict::Overloaded { t, margin: _ } = said else {
-        return Written {
-            refusal: refuse(13),
-            bytes: 0,
-        };
-    };
-    let starts = judged.starts;
-    lay_written(overload::write::write_list(table, plan, starts, t, buffer, place))
+    let table = TaskTable::read(table)?;
+    let overload = find_overload(&table)?;
+    overload.write_list(buffer, place)
 }
 
 // Writes the overload list of the table into the buffer, from the place on; bytes before it and after the list stay.
@@ -86,12 +55,5 @@ pub fn limpidorsa_overload<'a, 'b>(table: &'a [u8], buffer: &'b mut [u8], place:
     ensures { FlatWrote buffer.old place (overload_asked table.now buffer.old place) result
         buffer.new }
 {
-    let reading = table::reader::read_table(table);
-    let Reading::Table(shape) = reading else {
-        return Written {
-            refusal: table::reader::table_refusal(reading),
-            bytes: 0,
-        };
-    };
-    write_in(table, shape, buffer, place)
+    Written::from(ask_overload(table, buffer, place))
 }

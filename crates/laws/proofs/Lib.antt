@@ -3,7 +3,8 @@ pub mod Cases
 pub mod Countdown
 pub mod Every
 pub mod Falling
-pub mod Fill
+pub mod FindLaws
+pub mod FromFn
 pub mod GateLaws
 pub mod LadderLaws
 pub mod LastLaws
@@ -21,6 +22,7 @@ pub mod SumLaws
 pub mod SumParts
 pub mod SumShares
 pub mod SumSwap
+pub mod TabulateLaws
 pub mod TallyLaws
 pub mod TallyNext
 pub mod Tests

@@ -9,7 +9,7 @@ use native.Mathlib.Numerals.{add-one}
 use native.Mathlib.Omega.{arith}
 use Rattle.laws.specs.Search.{Found, at, nowhere, least_from}
 use Rattle.laws.proofs.Cases.{lt_or_le}
-use Rattle.laws.proofs.Countdown.{all_from, one_less, none_left}
+use Rattle.laws.proofs.Countdown.{all_from, one_less}
 
 -- i is the least of the `many` numbers from `start` on that passes
 pub record Least (test : ℕ → Bool) (many start i : ℕ) : Type 0 where
@@ -124,7 +124,3 @@ module _ {test : ℕ → Bool} {many start i : ℕ} (seeking : Seeking test many
             ∙ ap (least_from test (start + many - (i + 1))) (sym (add-one i)))
             ∙ seeking.rest;
       }
-
-  pub seeking_end : start + many ≤ i → nowhere ≡ least_from test many start
-  unfolding least_from
-  seeking_end past = sym (ap (λ (k : ℕ). least_from test k i) (none_left (start + many) i past)) ∙ seeking.rest

@@ -1,16 +1,16 @@
--- The difference of two naturals as a signed number, and as an i64.
+-- The difference of two naturals as a signed number, and a signed number as an i64.
 -- Assumes nothing.
-use mathlib.Core.Path.{◌≡◌, refl, ap, ap₂, sym, ◌∙◌}
+use mathlib.Core.Path.{◌≡◌, ap, ◌∙◌}
 use mathlib.Core.Logic.{inl, inr}
-use Prim.Native.Nat.{ℕ, suc, zero, ◌-◌, ◌^◌, ◌≤◌, ◌<◌}
+use Prim.Native.Nat.{ℕ, suc, ◌-◌, ◌^◌, ◌≤◌, ◌<◌}
 use native.Mathlib.Nat.{sub-zero}
 use native.Mathlib.Omega.{arith}
 use lib.Dec.{ltb}
-use lib.IntN.{ℤ, pos, negsuc, sub_ℕ, ◌-ℤ◌}
+use lib.IntN.{ℤ, pos, negsuc, sub_ℕ}
 use lib.Signed.{mag, lt_z}
 use mir.Syntax.{w64}
-use mir.Val.{SFits, to_z, of_z}
-use mir.Facts.{to_z_pos, to_z-of_z}
+use mir.Val.{to_z, of_z}
+use mir.Facts.{to_z-of_z}
 use borrow.Author.Tests.{lt-ltb, le-ltb}
 use Rattle.laws.proofs.Cases.{lt_or_le}
 
@@ -27,26 +27,6 @@ sub_sign a b =
       | inl less ↦ rw (sub_below a b less, lt-ltb a b less)
       | inr more ↦ rw (sub_above a b more, le-ltb a b more, le-ltb (a - b) 0 (omega arith))
     ]
-
-minus : (a b : ℕ) → pos a -ℤ pos b ≡ sub_ℕ a b
-minus a zero = sym (sub_above a 0 (omega arith) ∙ ap pos (omega arith))
-minus a (suc b) = refl
-
-mag_sub : (a b n : ℕ) → a < n → b < n → mag (sub_ℕ a b) < n
-mag_sub a b n ha hb =
-    elim (lt_or_le a b)
-    [ inl less ↦ rw (sub_below a b less) (omega arith) | inr more ↦ rw (sub_above a b more) (omega arith) ]
-
--- `a as i64 - b as i64`: it fits, and it is the difference
-module _ (a b : ℕ) (ha : a < 2 ^ 63) (hb : b < 2 ^ 63) where
-  both : to_z w64 a -ℤ to_z w64 b ≡ sub_ℕ a b
-  both = ap₂ ◌-ℤ◌ (to_z_pos w64 ha) (to_z_pos w64 hb) ∙ minus a b
-
-  pub sub_fits : SFits w64 (to_z w64 a -ℤ to_z w64 b)
-  sub_fits = rw both (record { sfits = mag_sub a b (2 ^ 63) ha hb })
-
-  pub sub_is : to_z w64 (of_z w64 (to_z w64 a -ℤ to_z w64 b)) ≡ sub_ℕ a b
-  sub_is = to_z-of_z sub_fits ∙ both
 
 -- a signed value, stored and read again
 pub signed_kept : (z : ℤ) → mag z < 2 ^ 63 → to_z w64 (of_z w64 z) ≡ z

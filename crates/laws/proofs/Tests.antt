@@ -87,7 +87,3 @@ module _ (a b : ℕ) {test : Bool} {P : Type 0} (by : Catches test P) where
   -- where two numbers agree
   pub catches_when : Catches (eqb a b && test) (a ≡ b → P)
   catches_when = catches_given (eqb-true a b) (eqb-false a b) by
-
-  -- where one is less than the other
-  pub catches_past : Catches (ltb a b && test) (a < b → P)
-  catches_past = catches_given (ltb-true a b) (λ e less. omega (arith, ltb-false a b e)) by

@@ -1,6 +1,6 @@
 -- The least number that passes a test, the greatest, and the first place of the least value and of the greatest.
 -- Assumes nothing.
-use Rattle.std.specs.Prelude.{Bool, true, false, cond, ℕ, zero, suc, eqb, ℤ}
+use Rattle.std.specs.Prelude.{Bool, true, false, cond, ℕ, zero, suc, eqb, ℤ, Option, Some, None}
 use Rattle.std.specs.Int.Signed.{lt_z}
 use Rattle.laws.specs.Sums.{greatest}
 
@@ -17,6 +17,11 @@ least_from test (suc many) start = elim (test start) [ true ↦ at start | false
 abbrev pub place_or : ℕ → Found → ℕ
 place_or other (at i) = i
 place_or other nowhere = other
+
+-- the same as the code's value
+abbrev pub option_of : Found → Option ℕ
+option_of (at i) = Some i
+option_of nowhere = None
 
 -- how many of 0, 1, 2, .. go up to and including the last below n that passes; 0 where none passes
 unfoldable pub up_to_last : (ℕ → Bool) → ℕ → ℕ

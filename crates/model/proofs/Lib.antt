@@ -16,7 +16,6 @@ pub mod PickLaws
 pub mod OrderLaws
 pub mod PickRight
 pub mod PickSame
-pub mod PickPlace
 pub mod MachineLaws
 pub mod StageLaws
 pub mod ReplayLaws

@@ -68,6 +68,3 @@ module _ (test : ℕ → Bool) (before : Order) where
 
   pub pick_below : (n b : ℕ) → pick test before n ≡ at b → b < n
   pick_below n b found = (pick_is n b found).below
-
-  pub pick_passes : (n b : ℕ) → pick test before n ≡ at b → test b ≡ true
-  pick_passes n b found = (pick_is n b found).passes

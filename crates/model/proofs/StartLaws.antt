@@ -9,7 +9,7 @@ use lib.ListN.{length, get_or}
 use lib.Seq.{ext_get_or}
 use borrow.Author.Tests.{lt-ltb, le-ltb}
 use Rattle.laws.proofs.Cases.{lt_or_le}
-use Rattle.laws.proofs.Fill.{tabulate_length, tabulate_at}
+use Rattle.laws.proofs.TabulateLaws.{tabulate_length, tabulate_at}
 use Rattle.laws.proofs.PeakLaws.{Peaked, peaked_lowest, peak_of}
 use Rattle.model.specs.Task.{Task, Table, Proper, ProperTable}
 use Rattle.model.specs.Demand.{counted, lowest}

@@ -16,13 +16,12 @@ use Rattle.model.specs.Task.{Task, Proper}
 use Rattle.model.specs.Demand.{frame, offset}
 use Rattle.model.specs.Overload.{due_by, requests_by}
 use Rattle.model.proofs.CyclicLaws.{frame_lt, frame_none, frame_next, offset_none, offset_next, offset_mono}
-use Rattle.table.specs.Ready.{FrameIs, Frames}
+use Rattle.table.specs.Ready.{FrameIs}
 use Rattle.table.specs.declared.record.Record.{Record}
 use Rattle.overload.specs.Counts.{Counted}
 
 -- n requests are tried: the time left at the next one's arrival, its frame, and how many go up to the last that is due
 pub record Counting (task : Task) (start t left i n many : ℕ) : Type 0 where
-  pub proper : Proper task
   pub left_is : left ≡ t - offset task start n
   pub frame_is : i ≡ frame task start n
   pub many_is : many ≡ up_to_last (due_by task start t) n
@@ -32,20 +31,16 @@ pub record Counting (task : Task) (start t left i n many : ℕ) : Type 0 where
   pub few : many ≤ n
 
 -- what one turn reads and makes: the record x of frame i, and whether its deadline fits in the time left
-pub record CountingTurn (task : Task) (frames left i n many left' i' n' many' : ℕ) (x : Record) : Type 0 where
+pub record CountingTurn (task : Task) (left i left' i' : ℕ) (x : Record) (due : Bool) : Type 0 where
   pub some : 0 < left
   pub found : FrameIs task i x
-  pub round : Frames task frames
-  pub one_more : n' ≡ n + 1
-  pub many_turns : many' ≡ cond (leb x.d left) n' many
+  pub due_is : leb x.d left ≡ due
   pub left_turns : left' ≡ left - x.p
-  pub frame_turns : i' ≡ (i + 1) % frames
+  pub frame_turns : i' ≡ (i + 1) % task.count
 
-pub counting_start : {task : Task} → Proper task → (start t : ℕ) → start < task.count
-    → Counting task start t t start 0 0
-counting_start {task} proper start t inside =
+pub counting_start : (task : Task) (start t : ℕ) → start < task.count → Counting task start t t start 0 0
+counting_start task start t inside =
     record {
-      proper = proper;
       left_is = omega (arith, offset_none task start);
       frame_is = sym (frame_none task start inside);
       many_is = sym (last_none (due_by task start t));
@@ -71,27 +66,26 @@ fits_left d left off t left_is some =
       | inr met ↦ le-leb (off + d) t (omega arith) ∙ sym (le-leb d left met)
     ]
 
-module _ {task : Task} {start t left i n many : ℕ} (so_far : Counting task start t left i n many) where
+module _ {task : Task} (proper : Proper task) {start t left i n many : ℕ}
+    (so_far : Counting task start t left i n many) where
   -- every P lessens the time left
   pub counting_less : {left' : ℕ} (x : Record) → FrameIs task i x → left' ≡ left - x.p → 0 < left → left' < left
-  counting_less x found turns some = omega (arith, found.p, so_far.proper.moves i so_far.inside)
+  counting_less x found turns some = omega (arith, found.p, proper.moves i so_far.inside)
 
-  module _ (frames : ℕ) (x : Record) {left' i' n' many' : ℕ}
-      (turn : CountingTurn task frames left i n many left' i' n' many' x) where
+  module _ (x : Record) (due : Bool) {left' i' : ℕ} (turn : CountingTurn task left i left' i' x due) where
     -- the task's own numbers in this turn
     p_is : x.p ≡ task.P (frame task start n)
     p_is = turn.found.p ∙ ap task.P so_far.frame_is
 
-    due_is : due_by task start t n ≡ leb x.d left
-    due_is =
+    due_here : due_by task start t n ≡ due
+    due_here =
         rw (sym so_far.frame_is, sym turn.found.d)
-        (fits_left x.d left (offset task start n) t so_far.left_is turn.some)
+        (fits_left x.d left (offset task start n) t so_far.left_is turn.some ∙ turn.due_is)
 
     next_is : i' ≡ frame task start (n + 1)
     unfolding frame
     next_is =
         turn.frame_turns
-        ∙ ap (λ (count : ℕ). (i + 1) % count) turn.round.is
         ∙ ap (λ (j : ℕ). frame task j 1) so_far.frame_is
         ∙ frame_next task start n
         ∙ ap (frame task start) (sym (add-one n))
@@ -99,21 +93,16 @@ module _ {task : Task} {start t left i n many : ℕ} (so_far : Counting task sta
     later : offset task start (n + 1) ≡ offset task start n + x.p
     later = ap (offset task start) (add-one n) ∙ offset_next task start n ∙ omega (arith, p_is)
 
-    many_is : many' ≡ cond (leb x.d left) (n + 1) many
-    many_is = turn.many_turns ∙ rw turn.one_more
-
-    pub counting_on : Counting task start t left' i' n' many'
-    counting_on =
-        rw turn.one_more
-        (record {
-          proper = so_far.proper;
+    pub counting_on : {many' : ℕ} → many' ≡ cond due (n + 1) many → Counting task start t left' i' (n + 1) many'
+    counting_on {many' = many'} turns =
+        record {
           left_is = omega (arith, turn.left_turns, so_far.left_is, later);
           frame_is = next_is;
-          many_is = last_turn (due_by task start t) n (leb x.d left) due_is so_far.many_is many_is;
-          inside = rw next_is (frame_lt task so_far.proper.some start (n + 1));
+          many_is = last_turn (due_by task start t) n due due_here so_far.many_is turns;
+          inside = rw next_is (frame_lt task proper.some start (n + 1));
           turns = omega (arith, so_far.turns, counting_less x turn.found turn.left_turns turn.some);
-          few = most (leb x.d left) many_is;
-        })
+          few = most due turns;
+        }
       where
         most : (due : Bool) → many' ≡ cond due (n + 1) many → many' ≤ n + 1
         most true is = omega arith
@@ -135,5 +124,5 @@ module _ {task : Task} {start t left i n many : ℕ} (so_far : Counting task sta
             arith,
             so_far.left_is,
             offset_mono task start n j after,
-            so_far.proper.waits (frame task start j) (frame_lt task so_far.proper.some start j),
+            proper.waits (frame task start j) (frame_lt task proper.some start j),
           ))

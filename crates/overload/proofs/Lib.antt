@@ -1,9 +1,9 @@
 pub mod Shown
 pub mod CountLaws
-pub mod ManyLaws
-pub mod ArrayTotalLaws
+pub mod LaneLaws
+pub mod FirstRuns
 pub mod FrontLaws
 pub mod MoveLaws
 pub mod StandLaws
+pub mod WeaveTurns
 pub mod PutLaws
-pub mod GatheredLaws

@@ -1,144 +1,132 @@
--- The loop that writes: the first i requests of the weave are in the bytes, and the lanes stand before request i.
+-- The loop that writes: the first i requests of the list are in the bytes, and the lanes stand before request i.
 -- Assumes nothing.
-use mathlib.Core.Path.{◌≡◌, refl, ◌∙◌, ap, sym}
-use mathlib.Core.List.{List, ◌++◌}
+use mathlib.Core.Path.{◌≡◌, refl, sym, ◌∙◌, ap}
+use mathlib.Core.List.{List, ◌++◌, append_assoc}
 use Prim.Native.Nat.{ℕ, ◌+◌, ◌-◌, ◌*◌, ◌≤◌, ◌<◌}
 use native.Mathlib.Numerals.{add-one}
-use native.Mathlib.Nat.{le_of_lt}
 use native.Mathlib.Omega.{arith}
-use lib.ListN.{length, drop, length-append, length-drop}
-use borrow.Rule.Slice.PartMut.{put_mid, mid_of}
-use Rattle.model.specs.Task.{Table}
+use lib.ListN.{length, drop, set, length-set}
+use lib.Seq.{drop-drop, take_at, drop_at}
+use borrow.Rule.Slice.PartMut.{put_mid}
+use Rattle.std.proofs.Common.{Some, None}
+use Rattle.laws.specs.Search.{at, option_of}
+use Rattle.laws.proofs.FoundLaws.{found_some, found_none}
+use Rattle.model.specs.Task.{Table, ProperTable}
 use Rattle.model.specs.Request.{Requests}
 use Rattle.model.specs.Weave.{Runs, taken_by, weave}
 use Rattle.model.proofs.CyclicLaws.{frame_lt}
-use Rattle.table.specs.Ready.{Ready}
-use Rattle.table.specs.TableOf.{table_of}
-use Rattle.table.specs.declared.plan.Plan.{Plan}
-use Rattle.table.proofs.ReadyLaws.{ready_tasks, ready_few}
-use Rattle.place.proofs.TailLaws.{lent_tail, one_more}
 use Rattle.requests.specs.Entry.{entry_size, entry_bytes, bytes_to, bytes_of}
 use Rattle.requests.proofs.BytesLaws.{bytes_length}
-use Rattle.overload.specs.Lanes.{runs_of, Puts, front, Movable, lanes_moved, next_request, Stand}
+use Rattle.overload.specs.Lanes.{lane, front, next_request, lane_moved, Movable, Stand, runs_of, Puts}
+use Rattle.overload.specs.declared.lanes.Lane.{Lane}
 use Rattle.overload.specs.declared.lanes.Lanes.{Lanes}
-use Rattle.overload.proofs.MoveLaws.{Full, full_on}
-use Rattle.overload.proofs.StandLaws.{stand_start, stand_frame, stand_arrival, turn_known, turn_left, turn_request, turn_stand}
+use Rattle.overload.proofs.StandLaws.{stand_start, stand_frame, stand_arrival}
+use Rattle.overload.proofs.WeaveTurns.{turn_known, turn_left, turn_listed, turn_request, turn_stand, stand_end}
 
 -- `lent` is what was lent, `out` what it is now
-pub record Putting (s : List ℕ) (plan : Plan) (runs : Runs) (n : ℕ) (lent out : List ℕ) (lanes : Lanes) (at i : ℕ)
+pub record Putting (table : Table) (runs : Runs) (tasks : ℕ) (lent out : List ℕ) (lanes : Lanes) (at : ℕ)
     : Type 0 where
-  pub ready : Ready s plan
-  pub puts : Puts (table_of s) runs n (length lent)
-  pub within : i ≤ n
+  pub puts : Puts table runs (length lent)
+  pub all : tasks ≡ table.tasks
+  pub few : tasks ≤ 16
+  pub i : ℕ  -- the requests that are written
+  pub within : i ≤ (weave table runs).count
   pub at_is : at ≡ i * entry_size
-  pub long : length out ≡ length lent
-  pub out_is : out ≡ bytes_to (weave (table_of s) runs) i ++ drop (i * entry_size) lent
-  pub full : Full lanes
-  pub stand : Stand (table_of s) runs (taken_by (table_of s) runs i) lanes
+  pub out_is : out ≡ bytes_to (weave table runs) i ++ drop at lent
+  pub sixteen : length lanes.each ≡ 16
+  pub stand : Stand table runs (taken_by table runs i) lanes
 
-pub putting_start : {s : List ℕ} {plan : Plan} {starts many from : List ℕ} {n : ℕ} {lent : List ℕ} → Ready s plan
-    → Puts (table_of s) (runs_of starts many from) n (length lent)
-    → Full (record { left = many; frame = starts; arrival = from })
-    → Putting s plan (runs_of starts many from) n lent lent
-    (record { left = many; frame = starts; arrival = from }) 0 0
+pub putting_start : {table : Table} {tasks : ℕ} {lent : List ℕ} {lanes : Lanes}
+    → Puts table (runs_of lanes) (length lent) → tasks ≡ table.tasks → table.tasks ≤ 16 → length lanes.each ≡ 16
+    → Putting table (runs_of lanes) tasks lent lent lanes 0
 unfolding bytes_to
-putting_start ready puts full =
+putting_start puts all few sixteen =
     record {
-      ready = ready;
       puts = puts;
+      all = all;
+      few = omega arith;
+      i = 0;
       within = omega arith;
       at_is = refl;
-      long = refl;
       out_is = refl;
-      full = full;
+      sixteen = sixteen;
       stand = stand_start puts;
     }
 
--- records over the first bytes leave the length as it is
-over_long : (list : Requests) (n : ℕ) (lent : List ℕ) → n * entry_size ≤ length lent
-    → length (bytes_to list n ++ drop (n * entry_size) lent) ≡ length lent
-over_long list n lent fits =
-    length-append (bytes_to list n) (drop (n * entry_size) lent)
-    ∙ omega (arith, bytes_length list n, length-drop (n * entry_size) lent)
+-- the bytes after `front`, which has the first `start` of them, are written over
+one_more : (front more lent : List ℕ) (start n : ℕ) → length front ≡ start
+    → put_mid start n (front ++ drop start lent) more ≡ (front ++ more) ++ drop (start + n) lent
+one_more front more lent start n long =
+    rw (take_at front (drop start lent) start long, drop_at front (drop start lent) start long, drop-drop n start lent)
+    (sym (append_assoc front more (drop (start + n) lent)))
 
-module _ {s : List ℕ} {plan : Plan} {runs : Runs} {n : ℕ} {lent out : List ℕ} {lanes : Lanes} {at i : ℕ}
-    (putting : Putting s plan runs n lent out lanes at i) where
-  abbrev table : Table
-  table = table_of s
+module _ {table : Table} {runs : Runs} {lent out : List ℕ} {lanes : Lanes} {start tasks : ℕ}
+    (putting : Putting table runs tasks lent out lanes start) where
+  abbrev list : Requests
+  list = weave table runs
 
-  pub putting_few : plan.tasks ≤ 16
-  putting_few = omega (arith, ready_tasks putting.ready, ready_few putting.ready)
-
-  pub putting_end : n ≤ i → out ≡ bytes_of (weave table runs) ++ drop (n * entry_size) lent
-  putting_end over = putting.out_is ∙ rw (all, putting.puts.count_is)
-    where
-      all : i ≡ n
-      all = omega (arith, putting.within)
+  pub putting_end : None ≡ option_of (front tasks lanes) → out ≡ bytes_of list ++ drop (list.count * entry_size) lent
+  putting_end none =
+      let nothing = found_none (front table.tasks lanes) (rw putting.all at none) in
+      let end = stand_end putting.stand putting.within nothing in
+      putting.out_is ∙ rw (putting.at_is, end) refl
 
   -- ---- request i is written
 
-  module _ (more : i < n) where
-    room : at + entry_size ≤ length out
-    room = omega (arith, putting.at_is, putting.long, putting.puts.fits)
+  module _ {k : ℕ} (first : Some k ≡ option_of (front tasks lanes)) where
+    found : front table.tasks lanes ≡ at k
+    found = found_some (front table.tasks lanes) (rw putting.all at first)
 
-    -- what is lent to its writer has room for it
-    pub putting_lent : entry_size ≤ length (mid_of at (length out - at) out)
-    putting_lent = rw (lent_tail out at (omega (arith, room)), length-drop) (omega (arith, room))
+    pub putting_known : k < table.tasks
+    putting_known = turn_known putting.stand putting.within found
 
-    module _ {k : ℕ} (is : k ≡ front plan.tasks lanes) where
-      listed : i < (weave table runs).count
-      listed = omega (arith, putting.puts.count_is)
+    pub putting_low : k < 16
+    putting_low = omega (arith, putting_known, putting.all, putting.few)
 
-      front_is : k ≡ front table.tasks lanes
-      front_is = is ∙ ap (λ (m : ℕ). front m lanes) (ready_tasks putting.ready)
+    listed : putting.i < list.count
+    listed = turn_listed putting.stand putting.within found
 
-      known : k < table.tasks
-      known = turn_known putting.stand listed front_is
+    pub putting_room : start + entry_size ≤ length lent
+    putting_room = omega (arith, putting.at_is, putting.puts.fits, listed)
 
-      pub putting_low : k < 16
-      putting_low = omega (arith, known, ready_few putting.ready)
+    pub putting_movable : ProperTable table → Movable (table.task k) (lane lanes k)
+    putting_movable good =
+        let taken = taken_by table runs putting.i k in
+        let some = turn_left putting.stand putting.within found in
+        let early = putting.puts.near k taken putting_known some in
+        let in_task = frame_lt (table.task k) (good.proper k putting_known).some (runs.start k) taken in
+        record {
+          known = rw (stand_frame putting.stand k putting_known) in_task;
+          some = omega (arith, putting.stand.left_is k putting_known);
+          near = rw (stand_arrival putting.stand k putting_known) (omega (arith, early));
+        }
 
-      pub putting_movable : Movable s plan lanes k
-      putting_movable =
-          let taken = taken_by table runs i k in
-          let some = turn_left putting.stand listed front_is in
-          let first = putting.puts.inside k known in
-          let in_task = frame_lt (table.task k) (omega arith) (runs.start k) taken in
-          record {
-            ready = putting.ready;
-            low = putting_low;
-            known = record { task = known; frame = rw (stand_frame putting.stand k known) in_task };
-            some = omega (arith, putting.stand.left_is k known);
-            near =
-                rw (stand_arrival putting.stand k known) (le_of_lt (putting.puts.near k taken known some));
-          }
+    module _ {bytes : List ℕ} (bytes_are : bytes ≡ entry_bytes (next_request (lane lanes k) k)) where
+      abbrev put : List ℕ
+      put = put_mid start (start + entry_size - start) out bytes
 
-      turn_out : {last : List ℕ}
-          → last ≡ entry_bytes (next_request lanes k) ++ drop entry_size (mid_of at (length out - at) out)
-          → put_mid at (length out - at) out last
-          ≡ bytes_to (weave table runs) (i + 1) ++ drop ((i + 1) * entry_size) lent
+      turn_out : put ≡ bytes_to list (putting.i + 1) ++ drop (start + entry_size) lent
       unfolding bytes_to
-      turn_out {last = last} last_is =
-          let put = bytes_to (weave table runs) i in
-          let far : at + entry_size ≡ (i + 1) * entry_size = omega (arith, putting.at_is) in
-          one_more lent out last put (entry_bytes (next_request lanes k)) at entry_size (omega (arith, room))
-          (bytes_length (weave table runs) i ∙ sym putting.at_is)
-          (putting.out_is ∙ ap (λ n. put ++ drop n lent) (sym putting.at_is)) last_is
-          ∙ rw (far, add-one i, turn_request putting.stand listed front_is)
+      turn_out =
+          let before = bytes_to list putting.i in
+          let far : start + (start + entry_size - start) ≡ start + entry_size = omega arith in
+          ap (λ o. put_mid start (start + entry_size - start) o bytes) putting.out_is
+          ∙ one_more before bytes lent start _ (bytes_length list putting.i ∙ sym putting.at_is)
+          ∙ rw (far, bytes_are, add-one putting.i, turn_request putting.stand putting.within found)
 
-      pub putting_turn : {last : List ℕ} {moved : Lanes}
-          → last ≡ entry_bytes (next_request lanes k) ++ drop entry_size (mid_of at (length out - at) out)
-          → moved ≡ lanes_moved table lanes k
-          → Putting s plan runs n lent (put_mid at (length out - at) out last) moved (at + entry_size) (i + 1)
-      putting_turn last_is moved_is =
-          let fits : (i + 1) * entry_size ≤ length lent = omega (arith, putting.puts.fits) in
+      pub putting_turn : {x : Lane} → x ≡ lane_moved (table.task k) (lane lanes k)
+          → Putting table runs tasks lent put (record { each = set lanes.each k x }) (start + entry_size)
+      putting_turn x_is =
           record {
-            ready = putting.ready;
             puts = putting.puts;
-            within = omega arith;
+            all = putting.all;
+            few = putting.few;
+            i = putting.i + 1;
+            within = omega (arith, listed);
             at_is = omega (arith, putting.at_is);
-            long = ap length (turn_out last_is) ∙ over_long (weave table runs) (i + 1) lent fits;
-            out_is = turn_out last_is;
-            full = rw moved_is (full_on table k putting.full);
-            stand = rw (moved_is, add-one i) (turn_stand putting.stand listed front_is putting.full putting_low);
+            out_is = turn_out;
+            sixteen = length-set lanes.each k _ ∙ putting.sixteen;
+            stand =
+                rw (x_is, add-one)
+                (turn_stand putting.stand putting.within found (omega (arith, putting_low, putting.sixteen)));
           }

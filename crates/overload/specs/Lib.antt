@@ -1,3 +1,4 @@
 pub mod Counts
 pub mod Lanes
+pub mod Listed
 pub mod Shows

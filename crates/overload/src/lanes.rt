@@ -1,63 +1,76 @@
 // Where each task stands while its requests are woven into one list.
-ghost use Rattle.std.specs.Prelude.{◌≡◌, ◌≤◌, ◌<◌};
-ghost use Rattle.table.specs.TableOf.{table_of};
-ghost use Rattle.overload.specs.Lanes.{front, better_of, Movable, lanes_moved};
+ghost use Rattle.std.specs.Prelude.{◌≡◌, ◌*◌, ◌≤◌, ◌<◌};
+ghost use Rattle.laws.specs.Search.{option_of};
+ghost use Rattle.table.specs.Ready.{task_in};
+ghost use Rattle.requests.specs.Entry.{entry_bytes, widest};
+ghost use Rattle.overload.specs.Lanes.{front, lane_moved, Movable, next_request, total_left};
 
-use table::plan::Plan;
+use requests::entry::ENTRY_SIZE;
+use table::task_run::TaskRun;
 
-// Of each task, how many of its requests are left, and the frame and the arrival of the next.
+// Of one task: how many of its requests are left, and the frame and the arrival of the next.
+#[derive(Clone, Copy)]
+pub struct Lane {
+    pub left: u32,
+    pub frame: u8,
+    pub arrival: u32,
+}
+
+impl Lane {
+    // The bytes of its next request, where it is task k's.
+    pub fn next_bytes(&self, k: usize) -> [u8; ENTRY_SIZE]
+        requires { k < 16 }
+        ensures { result ≡ entry_bytes (next_request self.now k) }
+    {
+        let [a, b, c, d] = self.arrival.to_le_bytes();
+        [k as u8, self.frame, 0, 0, a, b, c, d]
+    }
+
+    // That request is taken, and the task's next comes as early as it may.
+    pub fn move_on(&mut self, task: &TaskRun)
+        requires { Movable (task_in task.now) self.old }
+        ensures { self.new ≡ lane_moved (task_in task.now) self.old }
+    {
+        let i = usize::from(self.frame);
+        self.left -= 1;
+        self.frame = task.next(i) as u8;
+        self.arrival += u32::from(task.frame(i).p);
+    }
+}
+
+// One for each task.
 #[derive(Clone, Copy)]
 pub struct Lanes {
-    pub left: [u32; 16],
-    pub frame: [u8; 16],
-    pub arrival: [u32; 16],
+    pub each: [Lane; 16],
 }
 
-// The task whose next request comes first: the lower one at equal arrivals.
-pub fn front_of(tasks: usize, lanes: Lanes) -> usize
-    requires { tasks ≤ 16 }
-    ensures { result ≡ front tasks lanes }
-{
-    let mut best: usize = 0;
-    let mut k: usize = 0;
-    while k < tasks {
-        best = better_of(lanes, best, k);
-        k += 1;
+impl Lanes {
+    // How many requests are left.
+    pub fn count_left(&self) -> usize
+        ensures is { result ≡ total_left self.now }
+        ensures small { result ≤ 16 * widest }
+    {
+        // not by `sum()`, which asks that the total fits before a summand is known
+        let mut sum: usize = 0;
+        for lane in &self.each {
+            sum += lane.left as usize;
+        }
+        sum
     }
-    best
-}
 
-// Of task k and the best below it, the one that comes first.
-fn better_of(lanes: Lanes, best: usize, k: usize) -> usize
-    requires { (best < 16) × (k < 16) }
-    ensures { result ≡ better_of lanes best k }
-{
-    let left = lanes.left;
-    let arrival = lanes.arrival;
-    if (0 < left[k]) & (!(0 < left[best]) | (arrival[k] < arrival[best])) {
-        k
-    } else {
+    // The task whose next request comes first: the lower one at equal arrivals.
+    pub fn front(&self, tasks: usize) -> Option<usize>
+        requires { tasks ≤ 16 }
+        ensures { result ≡ option_of (front tasks self.now) }
+    {
+        // not by `min_by_key`, whose contract does not say which of equals it takes
+        let mut best: Option<usize> = None;
+        for k in 0..tasks {
+            let lane = self.each[k];
+            if 0 < lane.left && best.is_none_or(|b| lane.arrival < self.each[b].arrival) {
+                best = Some(k);
+            }
+        }
         best
-    }
-}
-
-// One request of task k is taken.
-pub fn move_on(s: &[u8], plan: Plan, lanes: Lanes, k: usize) -> Lanes
-    requires { Movable s.now plan lanes k }
-    ensures { result ≡ lanes_moved (table_of s.now) lanes k }
-{
-    let i = lanes.frame[k] as usize;
-    let frames = table::frame::count_frames(s, plan, k);
-    let x = table::frame::frame_at(s, plan, k, i);
-    let mut left = lanes.left;
-    left[k] = left[k] - 1;
-    let mut frame = lanes.frame;
-    frame[k] = sums::cyclic::following(frames, i) as u8;
-    let mut arrival = lanes.arrival;
-    arrival[k] = arrival[k] + requests::entry::wide_half(x.p);
-    Lanes {
-        left,
-        frame,
-        arrival,
     }
 }

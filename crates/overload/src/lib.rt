@@ -1,7 +1,8 @@
 // The overload list as bytes: how many requests of each task, the lists of the tasks woven into one, and the writer.
 #![tactic(auto)]
 
-pub mod count;
+mod count;
 mod lanes;
+pub mod overload;
 mod put;
-pub mod write;
+mod write;

@@ -1,60 +1,29 @@
 // The record writer.
-ghost use Rattle.std.specs.Prelude.{◌≡◌, ◌++◌, ◌*◌, ◌≤◌, ◌<◌, length, drop};
+ghost use Rattle.std.specs.Prelude.{◌≡◌, ◌++◌, ◌*◌, length, drop};
 ghost use Rattle.model.specs.Weave.{weave};
-ghost use Rattle.table.specs.Ready.{Ready};
-ghost use Rattle.table.specs.TableOf.{table_of};
-ghost use Rattle.requests.specs.Entry.{entry_size, entry_bytes, bytes_of};
-ghost use Rattle.overload.specs.Lanes.{next_request, runs_of, Puts};
+ghost use Rattle.table.specs.Ready.{table_in};
+ghost use Rattle.requests.specs.Entry.{entry_size, bytes_of};
+ghost use Rattle.overload.specs.Lanes.{Puts, runs_of};
 
 use crate::lanes::Lanes;
 use requests::entry::ENTRY_SIZE;
-use table::plan::Plan;
+use table::task_table::TaskTable;
 
-// The next request of task k, at the front of what is lent.
-fn put_next(lanes: Lanes, k: usize, out: &mut [u8])
-    requires { (k < 16) × (entry_size ≤ length out.old) }
-    ensures { out.new ≡ entry_bytes (next_request lanes k) ++ drop entry_size out.old }
-{
-    let a = lanes.arrival[k];
-    out[0] = k as u8;
-    out[1] = lanes.frame[k];
-    out[2] = 0;
-    out[3] = 0;
-    out[4] = (a % 256) as u8;
-    out[5] = (a / 256 % 256) as u8;
-    out[6] = (a / 65536 % 256) as u8;
-    out[7] = (a / 16777216) as u8;
-}
-
-// The n requests of all tasks, woven, at the front of what is lent: of each task so many from its start frame on, the
-// first at its time.
-pub fn put_all(
-    s: &[u8],
-    plan: Plan,
-    starts: [u8; 16],
-    many: [u32; 16],
-    from: [u32; 16],
-    n: usize,
-    out: &mut [u8],
-)
-    requires { Ready s.now plan × Puts (table_of s.now) (runs_of starts many from) n (length out.old) }
-    ensures { out.new
-        ≡ bytes_of (weave (table_of s.now) (runs_of starts many from))
-        ++ drop (n * entry_size) out.old }
-{
-    let mut lanes = Lanes {
-        left: many,
-        frame: starts,
-        arrival: from,
-    };
-    let tasks = plan.tasks;
-    let mut at: usize = 0;
-    let mut i: usize = 0;
-    while i < n {
-        let k = crate::lanes::front_of(tasks, lanes);
-        put_next(lanes, k, &mut out[at..]);
-        lanes = crate::lanes::move_on(s, plan, lanes, k);
-        at += ENTRY_SIZE;
-        i += 1;
+impl Lanes {
+    // The requests that are left, of all tasks, woven, at the front of what is lent.
+    pub fn put_all(mut self, table: &TaskTable, out: &mut [u8])
+        requires { Puts (table_in table.now) (runs_of self) (length out.old) }
+        ensures { out.new
+            ≡ bytes_of (weave (table_in table.now) (runs_of self))
+            ++ drop ((weave (table_in table.now) (runs_of self)).count * entry_size) out.old }
+    {
+        let tasks = table.tasks();
+        let mut at: usize = 0;
+        while let Some(k) = self.front(tasks) {
+            let lane = &mut self.each[k];
+            out[at..at + ENTRY_SIZE].copy_from_slice(&lane.next_bytes(k));
+            lane.move_on(&table.task(k));
+            at += ENTRY_SIZE;
+        }
     }
 }

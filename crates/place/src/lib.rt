@@ -1,4 +1,4 @@
-// Bytes written into a lent buffer from a place that the caller names: whether there is room, and what is answered.
+// Bytes written into a lent buffer from a place that the caller names: whether there is room.
 #![tactic(auto)]
 
-pub mod written;
+pub mod room;

@@ -5,6 +5,7 @@ use Prim.Native.Nat.{ℕ}
 use mathlib.Core.Path.{◌≡◌, refl, subst, ◌∙◌}
 use mathlib.Core.Logic.{inl, inr}
 use mathlib.Core.List.{List}
+use Rattle.std.specs.Prelude.{Result, Ok, Err}
 use Rattle.model.specs.Task.{Table}
 use Rattle.model.specs.Request.{Requests}
 use Rattle.model.specs.Jobs.{jobs_of}
@@ -12,12 +13,11 @@ use Rattle.model.specs.Machine.{sooner}
 use Rattle.model.specs.Replay.{Replayed, ReplaySays}
 use Rattle.model.specs.Answer.{Answer, answered, refused}
 use Rattle.table.specs.Bytes.{Bytes}
+use Rattle.table.specs.declared.fault.Refusal.{Refusal}
 use Rattle.table.specs.TableOf.{table_of}
 use Rattle.table.specs.WellFormed.{WellFormed}
 use Rattle.table.proofs.Rising.{few_tasks}
 use Rattle.table.proofs.TaskLaws.{well_proper}
-use Rattle.requests.specs.declared.list_reader.Checked.{Checked}
-use Rattle.requests.specs.declared.list_reader.Checked.TheVariants.{Legal, Refused}
 use Rattle.requests.specs.Entry.{list_of}
 use Rattle.requests.specs.ListReader.{check_of}
 use Rattle.requests.proofs.ListReaderExact.{check_good, good_check, check_refused, refused_check}
@@ -50,11 +50,11 @@ module _ {A : Type 0} (ask : Table → Requests → A) (s list : List ℕ) where
 
   -- ---- and back
 
-  checked_told : WellFormed s → (x : Checked) → check_of (table_of s) list ≡ x
+  checked_told : WellFormed s → (x : Result ℕ Refusal) → check_of (table_of s) list ≡ x
       → Told s list (by_list list ask (table_of s))
-  checked_told well (Legal n) is =
+  checked_told well (Ok n) is =
       rw is (record { table_good = well; list_good = check_good (table_of s) (few_tasks well) list n is })
-  checked_told well (Refused r) is =
+  checked_told well (Err r) is =
       rw is (inr (record { table_good = well; list_bad = check_refused (table_of s) (few_tasks well) list r is }))
 
   list_told : Told s list (on_list s list ask)

@@ -4,6 +4,7 @@ use mathlib.Core.Path.{◌≡◌, refl}
 use mathlib.Core.List.{List}
 use Prim.Native.Nat.{ℕ}
 use lib.Dec.{T}
+use Rattle.std.specs.Prelude.{Ok}
 use Rattle.laws.specs.Sums.{sum}
 use Rattle.laws.specs.Reader.{read_on, read_all}
 use Rattle.laws.proofs.Every.{every}
@@ -12,7 +13,6 @@ use Rattle.model.specs.Verdict.{horizon, Verdict}
 use Rattle.model.specs.VerdictMeaning.{Means}
 use Rattle.model.specs.Answer.{answered}
 use Rattle.model.proofs.LoneTask.{Lone}
-use Rattle.table.specs.declared.reader.Reading.TheVariants as reading
 use Rattle.table.specs.Bytes.{Bytes, record_of}
 use Rattle.table.specs.TableReader.{reading_of}
 use Rattle.table.specs.TableOf.{records_before, records_of, task_of, table_of}
@@ -27,7 +27,7 @@ use Rattle.promise.proofs.JudgedLaws.{judged_rightly}
 -- the bytes are the table (e,d,p)
 pub record Reads (s : List ℕ) (e d p : ℕ) : Type 0 where
   pub all_bytes : T (every is_byte s)
-  pub read : reading_of s ≡ reading.Table (record { records = 1; tasks = 1 })
+  pub read : reading_of s ≡ Ok (record { records = 1; tasks = 1 })
   pub lone : Lone (table_of s) e d p
 
 module _ {s : List ℕ} {e d p : ℕ} (reads : Reads s e d p) where
@@ -46,7 +46,7 @@ module _ {s : List ℕ} {e d p : ℕ} (reads : Reads s e d p) where
 
 -- each is computed
 reads_so : {s : List ℕ} {e d p : ℕ} → T (every is_byte s)
-    → reading_of s ≡ reading.Table (record { records = 1; tasks = 1 }) → Lone (table_of s) e d p → Reads s e d p
+    → reading_of s ≡ Ok (record { records = 1; tasks = 1 }) → Lone (table_of s) e d p → Reads s e d p
 reads_so all_bytes read lone = record { all_bytes = all_bytes; read = read; lone = lone }
 
 lone_so : {table : Table} {e d p : ℕ} → table.tasks ≡ 1 → (table.task 0).count ≡ 1

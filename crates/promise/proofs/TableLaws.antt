@@ -5,14 +5,15 @@ use Prim.Native.Nat.{ℕ}
 use mathlib.Core.Path.{◌≡◌, refl}
 use mathlib.Core.List.{List}
 use native.Mathlib.Omega.{arith}
+use Rattle.std.specs.Prelude.{Result, Ok, Err}
 use Rattle.model.specs.Task as Model
 use Rattle.model.specs.Verdict.{horizon, verdict}
 use Rattle.model.specs.Answer.{Answer, answered, refused}
 use Rattle.table.specs.TableOf.{table_of}
 use Rattle.table.specs.WellFormed.{WellFormed}
 use Rattle.table.specs.TableRefusals.{TableRefused}
-use Rattle.table.specs.declared.reader.Reading.{Reading}
-use Rattle.table.specs.declared.reader.Reading.TheVariants.{Table, Refused}
+use Rattle.table.specs.declared.fault.Refusal.{Refusal}
+use Rattle.table.specs.declared.reader.Shape.{Shape}
 use Rattle.table.specs.TableReader.{reading_of}
 use Rattle.table.proofs.TableReaderExact.{read_good, good_read, read_refused, refused_read}
 use Rattle.desk.specs.Questions.{on_table, verdict_asked}
@@ -34,9 +35,9 @@ module _ {A : Type 0} (s : List ℕ) (ask : Model.Table → Answer A) where
       → Told (on_table s ask)
   table_told Told bad good = which (reading_of s) refl
     where
-      which : (r : Reading) → reading_of s ≡ r → Told (on_table s ask)
-      which (Table shape) is = rw is (good (read_good s shape is))
-      which (Refused r) is = rw is (bad r.number r.index (read_refused s r is))
+      which : (r : Result Shape Refusal) → reading_of s ≡ r → Told (on_table s ask)
+      which (Ok shape) is = rw is (good (read_good s shape is))
+      which (Err r) is = rw is (bad r.number r.index (read_refused s r is))
 
   -- bytes of which something is answered are a table
   pub answered_well : {value : A} → on_table s ask ≡ answered value → WellFormed s

@@ -6,7 +6,7 @@ use Rattle.laws.specs.Search.{Found, at, nowhere}
 use Rattle.model.specs.Verdict.{Verdict, overloaded, fits, undecided}
 use Rattle.model.specs.Response.{Response, on_time, late}
 use Rattle.model.specs.Answer.{Answer, answered, refused}
-use Rattle.table.specs.declared.reader.Refusal.{Refusal}
+use Rattle.table.specs.declared.fault.Refusal.{Refusal}
 use Rattle.table.specs.declared.reader.Shape.{Shape}
 use Rattle.desk.specs.declared.answers as flat
 use Rattle.desk.specs.Flat.{flat_shape, flat_amount, flat_margin, flat_window}

@@ -1,17 +1,13 @@
 -- Accepted bytes are a legal, sorted list of at most 128 requests with no late arrival, and nothing else is asked of
 -- them but zero pads: document 01, "The replay bench". And what a caller knows of a list that was called legal.
 -- Assumes nothing.
-use Prim.Native.Nat.{ℕ, ◌+◌, ◌*◌, ◌≤◌, ◌<◌}
+use Prim.Native.Nat.{ℕ, ◌≤◌, ◌<◌}
 use mathlib.Core.Path.{◌≡◌}
 use mathlib.Core.List.{List}
-use lib.ListN.{length}
-use native.Mathlib.Omega.{arith}
+use Rattle.std.specs.Prelude.{Ok}
 use Rattle.model.specs.Task.{Table}
 use Rattle.model.specs.Request.{Legal, Sorted, last_arrival}
-use Rattle.table.specs.TableOf.{table_of}
-use Rattle.requests.specs.declared.list_reader.Checked.TheVariants as checked
-use Rattle.requests.specs.Entry.{entry_size, entries, most_requests, entry_of, list_of}
-use Rattle.requests.specs.ListRules.{Placed}
+use Rattle.requests.specs.Entry.{entries, most_requests, entry_of, list_of}
 use Rattle.requests.specs.ListReader.{check_of}
 use Rattle.requests.specs.Accepted.{GoodRequest, Accepted, InRule, Listed}
 use Rattle.requests.proofs.ListLengthLaws.{list_length_few}
@@ -72,15 +68,6 @@ in_rule_accepted rules =
 
 -- ---- what a caller that has checked a list knows
 
--- a record of the list is whole
-pub entry_room : (s : List ℕ) (j : ℕ) → j < entries s → (j + 1) * entry_size ≤ length s
-entry_room s j within = omega arith
-
-pub accepted_placed : {s list : List ℕ} → Accepted (table_of s) list → (j : ℕ) → j < entries list →
-    Placed s (entry_of list j)
-accepted_placed accepted j within =
-    let place = (accepted.good j within).in_place in record { known = place.known; near = place.near }
-
-pub listed : (table : Table) → table.tasks ≤ 16 → (s : List ℕ) (n : ℕ) → check_of table s ≡ checked.Legal n →
+pub listed : (table : Table) → table.tasks ≤ 16 → (s : List ℕ) (n : ℕ) → check_of table s ≡ Ok n →
     Listed table s n
 listed table few s n is = record { accepted = check_good table few s n is; count_is = check_count table few s n is }

@@ -9,9 +9,11 @@ use lib.Seq.{get_or-set_same, get_or-set_other}
 use native.Mathlib.Decide.{ℕ_discrete}
 use native.Mathlib.Numerals.{add-one}
 use native.Mathlib.Omega.{arith}
+use Rattle.std.specs.Prelude.{Option, None}
 use Rattle.laws.proofs.Cases.{lt_or_last}
 use Rattle.model.specs.Task.{Table}
 use Rattle.requests.specs.declared.list_rules.Carry.{Carry}
+use Rattle.requests.specs.declared.list_rules.Turn.{Turn}
 use Rattle.requests.specs.Entry.{entry_of}
 use Rattle.requests.specs.ListRules.{list_after}
 use Rattle.requests.proofs.CarriedLaws.{Latest, OfTask, unseen, seen, Carried}
@@ -30,9 +32,9 @@ module _ (s : List ℕ) (i k : ℕ) (other : k ≡ (entry_of s i).task → ⊥) 
         | inr here ↦ absurd (other (sym (rw here at same)))
       ]
 
-  stays : {table : Table} {next from : ℕ} → OfTask table s i k next from → OfTask table s (i + 1) k next from
+  stays : {table : Table} {turn : Option Turn} → OfTask table s i k turn → OfTask table s (i + 1) k turn
   stays (unseen is never) = unseen is (λ j within same. never j (before_it j within same) same)
-  stays (seen m latest next_is from_is) = seen m still next_is from_is
+  stays (seen m latest is) = seen m still is
     where
       still : Latest s (i + 1) k m
       still =
@@ -45,26 +47,23 @@ module _ (s : List ℕ) (i k : ℕ) (other : k ≡ (entry_of s i).task → ⊥) 
 module _ {table : Table} {s : List ℕ} {i : ℕ} {b : Carry} (carried : Carried table s i b) where
   of_task_next : (entry_of s i).task < 16 → (k : ℕ) → k < 16 →
       let after = list_after table b (entry_of s i) in
-      OfTask table s (i + 1) k (get_or after.next k 0) (get_or after.from k 0)
+      OfTask table s (i + 1) k (get_or after.turns k None)
   of_task_next low k inside =
       elim (ℕ_discrete k (entry_of s i).task) [
         | yes here ↦
             rw here
             (seen i (newest s i)
-            (get_or-set_same b.next (entry_of s i).task _ 0 (omega (arith, carried.next_long)))
-            (get_or-set_same b.from (entry_of s i).task _ 0 (omega (arith, carried.from_long))))
+            (get_or-set_same b.turns (entry_of s i).task _ None (omega (arith, carried.long))))
         | no other ↦
-            rw (get_or-set_other b.next (entry_of s i).task k _ 0 other)
-            (rw (get_or-set_other b.from (entry_of s i).task k _ 0 other)
-            (stays s i k other (carried.of_task k inside)))
+            rw (get_or-set_other b.turns (entry_of s i).task k _ None other)
+            (stays s i k other (carried.of_task k inside))
       ]
 
   pub carried_next : (entry_of s i).task < 16 → Carried table s (i + 1) (list_after table b (entry_of s i))
   carried_next low =
       record {
         few = carried.few;
-        next_long = length-set b.next _ _ ∙ carried.next_long;
-        from_long = length-set b.from _ _ ∙ carried.from_long;
+        long = length-set b.turns _ _ ∙ carried.long;
         first_arrival = λ first. absurd (omega arith);
         first_task = λ first. absurd (omega arith);
         last = λ j before.

@@ -7,13 +7,14 @@ use mathlib.Core.Logic.{inl, inr}
 use mathlib.Core.List.{List}
 use lib.ListN.{length}
 use native.Mathlib.Omega.{arith}
+use Rattle.std.specs.Prelude.{Ok, Err}
 use Rattle.laws.specs.Reader.{whole, stopped, read_all}
 use Rattle.laws.proofs.LadderLaws.{climb_kept, climb_broken, keeps_or_named}
 use Rattle.laws.proofs.ReaderExact.{Rules}
 use Rattle.model.specs.Task.{Table}
 use Rattle.model.specs.Request.{last_arrival}
+use Rattle.table.specs.Faults.{refusal_at}
 use Rattle.requests.specs.declared.list_rules.Carry.{Carry}
-use Rattle.requests.specs.declared.list_reader.Checked.TheVariants.{Legal, Refused}
 use Rattle.requests.specs.Entry.{entries, entry_of}
 use Rattle.requests.specs.Accepted.{ListLengthRight, list_rules, GoodRequest}
 use Rattle.requests.specs.ListReader.{list_reader, check_of}
@@ -28,12 +29,12 @@ use Rattle.requests.proofs.ListRuleLaws.{list_rules_caught}
 
 module _ (table : Table) (s : List ℕ) where
   pub check_stopped : {number index : ℕ} → read_all (list_reader table s) ≡ stopped number index →
-      Refused (record { number = number; index = index }) ≡ check_of table s
+      Err (refusal_at number index) ≡ check_of table s
   unfolding check_of
   check_stopped is = sym (rw is)
 
   pub check_whole : {b : Carry} → read_all (list_reader table s) ≡ whole b → {n : ℕ} → n ≡ entries s →
-      Legal n ≡ check_of table s
+      Ok n ≡ check_of table s
   unfolding check_of
   check_whole is all = sym (rw (is, all))
 

@@ -1,11 +1,13 @@
 -- Each test of the rules 10 and 11, with what is carried from the records passed, is true exactly where its rule is
 -- broken.
 -- Assumes nothing.
-use Prim.Native.Nat.{ℕ, ◌+◌, ◌-◌, ◌≤◌, ◌<◌}
+use Prim.Native.Nat.{ℕ, ◌+◌, ◌-◌}
 use mathlib.Core.Path.{◌≡◌}
 use mathlib.Core.Logic.{inl, inr}
 use mathlib.Core.List.{List}
+use lib.ListN.{get_or}
 use native.Mathlib.Omega.{arith}
+use Rattle.std.specs.Prelude.{Option, None}
 use Rattle.laws.proofs.Cases.{lt_or_le}
 use Rattle.laws.proofs.LadderLaws.{Caught, rung}
 use Rattle.laws.proofs.Tests.{Catches, catches_as}
@@ -13,10 +15,11 @@ use Rattle.model.specs.Task.{Table}
 use Rattle.model.specs.Request.{Before}
 use Rattle.requests.specs.declared.entry.Entry.{Entry}
 use Rattle.requests.specs.declared.list_rules.Carry.{Carry}
+use Rattle.requests.specs.declared.list_rules.Turn.{Turn}
 use Rattle.requests.specs.Entry.{entry_of, request_in, list_of}
 use Rattle.requests.specs.ListRules.{misplaced, out_of_turn}
 use Rattle.requests.specs.Accepted.{InPlace, InTurn, list_rules}
-use Rattle.requests.proofs.TestLaws.{InOrder, catches_place, catches_turn}
+use Rattle.requests.proofs.TestLaws.{InOrder, catches_place, TurnKept, catches_turn}
 use Rattle.requests.proofs.CarriedLaws.{OfTask, unseen, seen, Last, Carried, latest_next, latest_is}
 
 module _ {table : Table} {s : List ℕ} {i : ℕ} {b : Carry} (carried : Carried table s i b) where
@@ -61,30 +64,24 @@ module _ {table : Table} {s : List ℕ} {i : ℕ} {b : Carry} (carried : Carried
 
   -- ---- rule 11
 
-  follows : {next from : ℕ} → OfTask table s i (entry_of s i).task next from →
-      (0 < next → (entry_of s i).frame + 1 ≡ next) → (0 < next → from ≤ (entry_of s i).arrival) → InTurn table s i
-  follows (unseen is never) frame not_soon j next = absurd (never j next.earlier next.same)
-  follows (seen m latest next_is from_is) frame not_soon j next =
-      rw (latest_is latest j next)
-      (record {
-        frame_is = omega (arith, next_is, frame (omega (arith, next_is)));
-        not_soon = omega (arith, from_is, not_soon (omega (arith, next_is)));
-      })
+  follows : {turn : Option Turn} → OfTask table s i (entry_of s i).task turn → TurnKept turn (entry_of s i) →
+      InTurn table s i
+  follows (unseen is never) kept j next = absurd (never j next.earlier next.same)
+  follows (seen m latest is) kept j next =
+      let comes = rw is at kept in
+      rw (latest_is latest j next) (record { frame_is = comes.frame_is; not_soon = omega (arith, comes.not_soon) })
 
-  told : {next from : ℕ} → OfTask table s i (entry_of s i).task next from → InTurn table s i → 0 < next →
-      ((entry_of s i).frame + 1 ≡ next) × (from ≤ (entry_of s i).arrival)
-  told (unseen is never) in_turn some = absurd (omega arith)
-  told (seen m latest next_is from_is) in_turn some =
-      let on = in_turn m (latest_next latest) in
-      (omega (arith, next_is, on.frame_is), omega (arith, from_is, on.not_soon))
+  in_turn : {turn : Option Turn} → OfTask table s i (entry_of s i).task turn → InTurn table s i →
+      TurnKept turn (entry_of s i)
+  in_turn (unseen is never) turn = rw is tt
+  in_turn (seen m latest is) turn =
+      let on = turn m (latest_next latest) in rw is (record { frame_is = on.frame_is; not_soon = on.not_soon })
 
   catches_11 : {last : ℕ} → InPlace last table s i → Catches (out_of_turn b (entry_of s i)) (InTurn table s i)
   catches_11 place =
       let of_task = carried.of_task (entry_of s i).task (omega (arith, place.known.task, carried.few)) in
-      catches_as
-      (λ kept. follows of_task kept.frame kept.not_soon)
-      (λ turn. record { frame = λ some. (told of_task turn some).0; not_soon = λ some. (told of_task turn some).1 })
-      (catches_turn b (entry_of s i))
+      catches_as (follows of_task) (in_turn of_task)
+      (catches_turn (get_or b.turns (entry_of s i).task None) (entry_of s i))
 
   -- ---- both: the test of rule 11 leans on rule 10
 

@@ -1,15 +1,17 @@
 -- The tests of the rules 10 and 11, of any table, state and record: what is left where each is false.
 -- Assumes nothing.
-use Prim.Native.Nat.{ℕ, ◌+◌, ◌≤◌, ◌<◌}
+use Prim.Native.Nat.{ℕ, ◌≤◌}
+use mathlib.Core.Bool.{false≢true}
 use mathlib.Core.Path.{◌≡◌}
-use lib.ListN.{get_or}
-use Rattle.laws.proofs.Tests.{Catches, catches_as, catches_lt, catches_ne, catches_or, catches_when, catches_past}
+use Rattle.std.specs.Prelude.{Option, Some, None}
+use Rattle.laws.proofs.Tests.{Catches, catches_as, catches_lt, catches_ne, catches_or, catches_when}
 use Rattle.model.specs.Task.{Table}
 use Rattle.model.specs.Request.{HasFrame}
 use Rattle.model.proofs.FrameLaws.{catches_frame}
 use Rattle.requests.specs.declared.entry.Entry.{Entry}
 use Rattle.requests.specs.declared.list_rules.Carry.{Carry}
-use Rattle.requests.specs.ListRules.{misplaced, out_of_turn}
+use Rattle.requests.specs.declared.list_rules.Turn.{Turn}
+use Rattle.requests.specs.ListRules.{misplaced, off_turn}
 
 -- ---- rule 10
 
@@ -49,14 +51,20 @@ catches_place last table b x =
 
 -- ---- rule 11
 
--- where the task has a record before, its next frame is told, and the soonest that it comes
-pub record TurnKept (b : Carry) (x : Entry) : Type 0 where
-  pub frame : 0 < get_or b.next x.task 0 → x.frame + 1 ≡ get_or b.next x.task 0
-  pub not_soon : 0 < get_or b.next x.task 0 → get_or b.from x.task 0 ≤ x.arrival
+-- the record is what has to come next of its task
+pub record Comes (turn : Turn) (x : Entry) : Type 0 where
+  pub frame_is : x.frame ≡ turn.frame
+  pub not_soon : turn.soonest ≤ x.arrival
 
-pub catches_turn : (b : Carry) (x : Entry) → Catches (out_of_turn b x) (TurnKept b x)
-catches_turn b x =
+-- nothing is asked of a task's first
+abbrev pub TurnKept : Option Turn → Entry → Type 0
+TurnKept None x = Unit {0}
+TurnKept (Some turn) x = Comes turn x
+
+pub catches_turn : (turn : Option Turn) (x : Entry) → Catches (off_turn turn x) (TurnKept turn x)
+catches_turn None x = record { passed = λ e. tt; caught = λ e. absurd (false≢true e) }
+catches_turn (Some turn) x =
     catches_as
-    (λ kept. record { frame = λ told. (kept told).0; not_soon = λ told. (kept told).1 })
-    (λ kept told. (kept.frame told, kept.not_soon told))
-    (catches_past 0 _ (catches_or (catches_ne _ _) (catches_lt _ _)))
+    (λ (frame_is, not_soon). record { frame_is = frame_is; not_soon = not_soon })
+    (λ kept. (kept.frame_is, kept.not_soon))
+    (catches_or (catches_ne _ _) (catches_lt _ _))

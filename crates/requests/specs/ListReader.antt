@@ -1,16 +1,15 @@
 -- The answer for any bytes taken as a request list of a table: document 01, "When the desk says no", 10 and 11.
 -- "for a list, length, then records in order, in each record 10 before 11."
 -- Assumes nothing.
-use Rattle.std.specs.Prelude.{ℕ, ◌*◌, ◌%◌, List, Bool, not, ◌||◌, length, ltb, eqb}
+use Rattle.std.specs.Prelude.{ℕ, ◌*◌, ◌%◌, List, Bool, not, ◌||◌, length, ltb, eqb, Result, Ok, Err}
 use Rattle.laws.specs.Ladder.{climb}
 use Rattle.laws.specs.Reader.{Reader, Read, whole, stopped, read_all}
 use Rattle.model.specs.Task.{Table}
 use Rattle.model.specs.Request.{last_arrival}
-use Rattle.table.specs.declared.reader.Refusal.{Refusal}
+use Rattle.table.specs.Faults.{refusal_at}
+use Rattle.table.specs.declared.fault.Refusal.{Refusal}
 use Rattle.requests.specs.declared.entry.Entry.{Entry}
 use Rattle.requests.specs.declared.list_rules.Carry.{Carry}
-use Rattle.requests.specs.declared.list_reader.Checked.{Checked}
-use Rattle.requests.specs.declared.list_reader.Checked.TheVariants.{Legal, Refused}
 use Rattle.requests.specs.Entry.{entry_size, entries, most_requests, entry_of}
 use Rattle.requests.specs.ListRules.{nothing_carried, list_after}
 use Rattle.requests.specs.Accepted.{list_rules}
@@ -37,14 +36,9 @@ list_reader table s =
     }
 
 -- the answer, for n records
-abbrev pub checked_in : ℕ → Read Carry → Checked
-checked_in n (whole b) = Legal n
-checked_in n (stopped number index) = Refused (record { number = number; index = index })
+abbrev pub checked_in : ℕ → Read Carry → Result ℕ Refusal
+checked_in n (whole b) = Ok n
+checked_in n (stopped number index) = Err (refusal_at number index)
 
-unfoldable pub check_of : Table → List ℕ → Checked
+unfoldable pub check_of : Table → List ℕ → Result ℕ Refusal
 check_of table s = checked_in (entries s) (read_all (list_reader table s))
-
--- the refusal that a check carries
-abbrev pub list_refusal : Checked → Refusal
-list_refusal (Legal n) = record { number = 0; index = 0 }
-list_refusal (Refused r) = r

@@ -1,6 +1,5 @@
 -- The higher tasks' shares: one as the walk from the peak frame gives it, and all of them added in order.
 -- Assumes nothing.
-use mathlib.Core.Bool.{false}
 use mathlib.Core.Path.{sym, ◌∙◌, ap}
 use Prim.Native.Nat.{ℕ, ◌≤◌}
 use native.Mathlib.Omega.{arith}
@@ -12,14 +11,15 @@ use Rattle.model.proofs.DemandLaws.{work_moves}
 use Rattle.model.proofs.ShareLaws.{peak_lowest}
 use Rattle.model.proofs.HigherLaws.{higher_sum}
 use Rattle.sums.specs.declared.peak.Peak.{Peak}
+use Rattle.sums.specs.declared.asked.Sum.TheVariants.{Work}
 use Rattle.sums.specs.Sized.{bound, Summed, Peaks}
 use Rattle.response.specs.Shares.{Share, Shares}
 
 -- ---- one task
 
 -- the start that brings the most work into one tick is the peak frame, and the sum from there is the share
-pub share_counted : {task : Task} → Proper task → {peak : Peak} → Peaks task false 1 peak → {w r : ℕ}
-    → Summed task false w peak.start r → Share task w r
+pub share_counted : {task : Task} → Proper task → {peak : Peak} → Peaks task Work 1 peak → {w r : ℕ}
+    → Summed task Work w peak.start r → Share task w r
 unfolding share_of
 share_counted {task} proper peak {w} sum =
     record {

@@ -2,12 +2,12 @@
 ghost use Rattle.std.specs.Prelude.{◌<◌, ◌≤◌};
 ghost use Rattle.model.specs.Request.{HasFrame};
 ghost use Rattle.model.specs.Response.{higher_share};
-ghost use Rattle.table.specs.Ready.{Ready};
-ghost use Rattle.table.specs.TableOf.{table_of};
+ghost use Rattle.table.specs.Ready.{table_in};
 ghost use Rattle.sums.specs.Sized.{ceiling};
 ghost use Rattle.response.specs.ResponseWritten.{Recurs, ResponseIs};
 
-use table::plan::Plan;
+use crate::share::add_shares;
+use table::task_table::TaskTable;
 
 #[derive(Clone, Copy)]
 pub enum Response {
@@ -17,14 +17,15 @@ pub enum Response {
 
 // The recurrence below the tasks above task k, from `start` on, until a value passes `end` or is repeated, with the
 // number of that value.
-fn recur(s: &[u8], plan: Plan, k: usize, start: u64, end: u64) -> Response
-    requires { Ready s.now plan × (k < plan.tasks) × (start ≤ ceiling) × (end ≤ ceiling) }
-    ensures { Recurs (higher_share (table_of s.now) k) start end result }
+fn recur(table: &TaskTable, k: usize, start: u64, end: u64) -> Response
+    requires { (k < (table_in table.now).tasks) × (start ≤ ceiling) × (end ≤ ceiling) }
+    ensures { Recurs (higher_share (table_in table.now) k) start end result }
 {
     let mut value = start;
     let mut round: u64 = 0;
+    // by the value: no number of rounds is its end
     while value <= end {
-        let next = start + crate::share::add_shares(s, plan, k, value);
+        let next = start + add_shares(table, k, value);
         if next == value {
             return Response::OnTime {
                 value,
@@ -38,10 +39,10 @@ fn recur(s: &[u8], plan: Plan, k: usize, start: u64, end: u64) -> Response
 }
 
 // The response of frame i of task k: from its E, and up to its D.
-pub fn respond(s: &[u8], plan: Plan, k: usize, i: usize) -> Response
-    requires { Ready s.now plan × HasFrame (table_of s.now) k i }
-    ensures { ResponseIs (table_of s.now) k i result }
+pub fn respond(table: &TaskTable, k: usize, i: usize) -> Response
+    requires { HasFrame (table_in table.now) k i }
+    ensures { ResponseIs (table_in table.now) k i result }
 {
-    let x = table::frame::frame_at(s, plan, k, i);
-    recur(s, plan, k, x.e as u64, x.d as u64)
+    let x = table.frame_at(k, i);
+    recur(table, k, u64::from(x.e), u64::from(x.d))
 }

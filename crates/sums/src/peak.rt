@@ -1,6 +1,11 @@
 // The greatest cyclic sum of one task over all its start frames, with the lowest frame that gives it.
-ghost use Rattle.table.specs.TableOf.{task_of};
-ghost use Rattle.sums.specs.Sized.{Stands, Raised, Greatest};
+ghost use Rattle.std.specs.Prelude.{◌≤◌};
+ghost use Rattle.table.specs.Ready.{task_in};
+ghost use Rattle.sums.specs.Sized.{Greatest, far};
+
+use crate::asked::Sum;
+use crate::cyclic::count_from;
+use table::task_run::TaskRun;
 
 #[derive(Clone, Copy)]
 pub struct Peak {
@@ -8,26 +13,17 @@ pub struct Peak {
     pub start: usize,
 }
 
-// The peak with one more start tried; an equal sum keeps the earlier start, for the lowest is asked.
-fn raised(peak: Peak, sum: u64, start: usize) -> Peak
-    ensures { Raised peak sum start result }
-{
-    if peak.sum < sum {
-        return Peak { sum, start };
-    }
-    peak
-}
-
-pub fn most_of(s: &[u8], first: usize, frames: usize, t: u64, due: bool) -> Peak
-    requires { Stands s.now first frames t }
-    ensures { Greatest (task_of s.now first frames) due t result }
+pub fn most_of(run: &TaskRun, t: u64, which: Sum) -> Peak
+    requires { t ≤ far }
+    ensures { Greatest (task_in run.now) which t result }
 {
     let mut peak = Peak { sum: 0, start: 0 };
-    let mut start: usize = 0;
-    while start < frames {
-        let sum = crate::cyclic::count_from(s, first, frames, start, t, due);
-        peak = raised(peak, sum, start);
-        start += 1;
+    for start in 0..run.frames {
+        let sum = count_from(run, start, t, which);
+        // an equal sum keeps the earlier start, for the lowest is asked
+        if peak.sum < sum {
+            peak = Peak { sum, start };
+        }
     }
     peak
 }

@@ -1,10 +1,12 @@
 -- The loop that counts the records of the tasks below k.
 -- Assumes nothing.
 use Prim.Native.Nat.{ℕ, ◌+◌, ◌≤◌, ◌<◌}
-use mathlib.Core.Path.{◌≡◌, sym, ap, ◌∙◌}
+use mathlib.Core.Path.{◌≡◌, sym, ap, subst, ◌∙◌}
+use mathlib.Core.Bool.{Bool}
 use mathlib.Core.List.{List}
 use lib.Dec.{ltb}
 use native.Mathlib.Omega.{arith}
+use borrow.Author.Tests.{lt-ltb, le-ltb}
 use Rattle.laws.specs.Sums.{only}
 use Rattle.laws.proofs.SumLaws.{sum_zero, sum_turn}
 use Rattle.table.specs.declared.record.Record.{Record}
@@ -22,20 +24,23 @@ unfolding records_before
 counts_start s n k = record { within = omega arith; most = omega arith; so_far = sym (sum_zero _) }
 
 module _ {s : List ℕ} {n k before i : ℕ} (counts : Counts s n k before i) where
-  pub counts_turn : {x : Record} {one : ℕ} → i < n → x ≡ record_of s i → one ≡ only (ltb x.task k) 1 → one ≤ 1 →
-      Counts s n k (before + one) (i + 1)
+  turn : {one : ℕ} → i < n → one ≡ only (ltb (record_of s i).task k) 1 → one ≤ 1 → Counts s n k (before + one) (i + 1)
   unfolding records_before
-  counts_turn more here is small =
+  turn more is small =
       record {
         within = omega arith;
         most = omega (arith, counts.most);
-        so_far =
-            sum_turn (λ j. only (ltb (record_of s j).task k) 1) i counts.so_far
-            (is ∙ ap (λ (y : Record). only (ltb y.task k) 1) here);
+        so_far = sum_turn (λ j. only (ltb (record_of s j).task k) 1) i counts.so_far is;
       }
 
-  pub counts_done : n ≤ i → before ≡ records_before n s k
-  counts_done done = counts.so_far ∙ ap (λ (m : ℕ). records_before m s k) (last counts.within)
-    where
-      last : i ≤ n → i ≡ n
-      last within = omega arith
+  module _ {x : Record} (more : i < n) (here : x ≡ record_of s i) where
+    pub counts_one : x.task < k → Counts s n k (before + 1) (i + 1)
+    counts_one low =
+        turn more (sym (ap (λ (b : Bool). only b 1) (ap (λ (y : Record). ltb y.task k) (sym here) ∙ lt-ltb _ _ low)))
+        (omega arith)
+
+    pub counts_none : k ≤ x.task → Counts s n k before (i + 1)
+    counts_none high =
+        subst (λ (m : ℕ). Counts s n k m (i + 1)) (omega arith)
+        (turn more (sym (ap (λ (b : Bool). only b 1) (ap (λ (y : Record). ltb y.task k) (sym here) ∙ le-ltb _ _ high)))
+        (omega arith))

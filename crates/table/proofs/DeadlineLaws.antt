@@ -1,47 +1,15 @@
--- The search for the first record with D above its P: a law for its hit, its turn and its end, what its answer tells,
--- and that it finds exactly that record, said of the records' numbers.
+-- The search for the first record with D above its P finds exactly that record, said of the records' numbers.
 -- Assumes nothing.
-use mathlib.Core.Bool.{true, false}
-use mathlib.Core.Path.{◌≡◌, ap, subst}
+use mathlib.Core.Bool.{false}
+use mathlib.Core.Path.{◌≡◌}
 use mathlib.Core.List.{List}
-use Prim.Native.Nat.{ℕ, ◌+◌, ◌≤◌, ◌<◌}
-use lib.Dec.{ltb}
+use Prim.Native.Nat.{ℕ, ◌≤◌}
 use native.Mathlib.Omega.{arith}
 use borrow.Author.Tests.{lt-ltb, le-ltb, ltb-true, ltb-false}
-use Rattle.laws.specs.Search.{Found, at, nowhere, least_from, place_or}
-use Rattle.laws.proofs.FoundLaws.{least_at, least_none}
-use Rattle.laws.proofs.SearchLaws.{Right, least_right, least_is, Seeking, seeking_hit, seeking_on, seeking_end}
+use Rattle.laws.specs.Search.{Found, at, nowhere, least_from}
+use Rattle.laws.proofs.SearchLaws.{Right, least_right, least_is}
 use Rattle.table.specs.Bytes.{record_of}
-use Rattle.table.specs.declared.record.Record.{Record}
 use Rattle.table.specs.Deadlines.{above, first_above, WithinP, FirstAbove}
-
-module _ (s : List ℕ) {n i : ℕ} (seeking : Seeking (above s) n 0 i) where
-  pub above_hit : {x : Record} → i < n → x ≡ record_of s i → x.p < x.d → i ≡ place_or n (first_above n s)
-  unfolding first_above
-  above_hit {x} more read longer =
-      ap (place_or n)
-      (seeking_hit seeking (omega arith) (subst (λ (y : Record). ltb y.p y.d ≡ true) read (lt-ltb _ _ longer)))
-
-  pub above_on : {x : Record} → i < n → x ≡ record_of s i → x.d ≤ x.p → Seeking (above s) n 0 (i + 1)
-  above_on {x} more read within =
-      seeking_on seeking (omega arith) (subst (λ (y : Record). ltb y.p y.d ≡ false) read (le-ltb _ _ within))
-
-  pub above_end : n ≤ i → n ≡ place_or n (first_above n s)
-  unfolding first_above
-  above_end past = ap (place_or n) (seeking_end seeking (omega arith))
-
--- ---- what the answer tells
-
-module _ (s : List ℕ) (n index : ℕ) (answer : index ≡ place_or n (first_above n s)) where
-  pub above_at : index < n → first_above n s ≡ at index
-  unfolding first_above
-  above_at = least_at (above s) n index answer
-
-  pub above_none : n ≤ index → first_above n s ≡ nowhere
-  unfolding first_above
-  above_none = least_none (above s) n index answer
-
--- ---- exactly the first record
 
 -- what the search may answer
 abbrev pub AboveTold : List ℕ → ℕ → Found → Type 0

@@ -11,7 +11,7 @@ use Rattle.table.specs.Bytes.{records, record_of}
 use Rattle.table.specs.WellFormed.{WellFormed}
 use Rattle.table.specs.TableOf.{records_before, records_of, table_of}
 use Rattle.table.proofs.Rising.{before_in, last_record}
-use Rattle.table.proofs.Runs.{run_within, task_in}
+use Rattle.table.proofs.Runs.{run_within, task_inside}
 use Rattle.table.proofs.TaskLaws.{task_count, task_E, task_D, task_P}
 
 -- frame i of task k is record j
@@ -48,7 +48,7 @@ module _ {s : List ℕ} (well : WellFormed s) (j : ℕ) (inside : j < records s)
         | inl past ↦ absurd (omega (
           arith,
           before_in well k (records s - 1) (last_record well) past,
-          (task_in well k j inside refl).from,
+          (task_inside well k j inside refl).from,
         ))
         | inr within ↦ omega arith
       ]
@@ -57,7 +57,7 @@ module _ {s : List ℕ} (well : WellFormed s) (j : ℕ) (inside : j < records s)
   pub record_frame : IsRecord s (record_of s j).task (j - records_before (records s) s (record_of s j).task) j
   record_frame =
       let k = (record_of s j).task in
-      let run = task_in well k j inside refl in
+      let run = task_inside well k j inside refl in
       let before = records_before (records s) s k in
       let count = task_count s before (records_of (records s) s k) in
       let here : before + (j - before) ≡ j = omega (arith, run.from) in

@@ -10,6 +10,7 @@ pub mod TableReaderExact
 pub mod Runs
 pub mod Stands
 pub mod TaskLaws
+pub mod FaultLaws
 pub mod ReadyLaws
 pub mod FrameRecords
 pub mod DeadlineLaws

@@ -6,13 +6,14 @@ use mathlib.Core.Path.{◌≡◌, refl, sym}
 use mathlib.Core.Logic.{inl, inr}
 use mathlib.Core.List.{List}
 use lib.ListN.{length}
+use Rattle.std.specs.Prelude.{Ok, Err}
 use Rattle.laws.specs.Reader.{whole, stopped, read_all}
 use Rattle.laws.proofs.LadderLaws.{climb_kept, climb_broken, keeps_or_named}
 use Rattle.laws.proofs.ReaderExact.{Rules}
 use Rattle.table.specs.declared.rules.SoFar.{SoFar}
 use Rattle.table.specs.declared.reader.Shape.{Shape}
-use Rattle.table.specs.declared.reader.Reading.TheVariants.{Table, Refused}
 use Rattle.table.specs.Bytes.{records, record_of}
+use Rattle.table.specs.Faults.{refusal_at}
 use Rattle.table.specs.TableReader.{table_reader, reading_of}
 use Rattle.table.specs.WellFormed.{TableLengthRight, table_rules, GoodRecord}
 use Rattle.table.specs.TableRefusals.{RecordBreaks}
@@ -25,12 +26,12 @@ use Rattle.table.proofs.TableRuleLaws.{table_rules_caught, good_record_keeps, ke
 
 module _ (s : List ℕ) where
   pub reading_stopped : {number index : ℕ} → read_all (table_reader s) ≡ stopped number index →
-      Refused (record { number = number; index = index }) ≡ reading_of s
+      Err (refusal_at number index) ≡ reading_of s
   unfolding reading_of
   reading_stopped is = sym (rw is)
 
   pub reading_whole : {b : SoFar} → read_all (table_reader s) ≡ whole b → {shape : Shape} → shape.records ≡ records s →
-      shape.tasks ≡ b.tasks → Table shape ≡ reading_of s
+      shape.tasks ≡ b.tasks → Ok shape ≡ reading_of s
   unfolding reading_of
   reading_whole is records_is tasks_is = sym (rw (is, records_is, tasks_is))
 

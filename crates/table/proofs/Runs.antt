@@ -47,8 +47,8 @@ pub record InTask (s : List ℕ) (k j : ℕ) : Type 0 where
 
 module _ {s : List ℕ} (well : WellFormed s) where
   -- the run of task k holds its frames and no others
-  pub task_in : (k j : ℕ) → j < records s → (record_of s j).task ≡ k → InTask s k j
-  task_in k j within is =
+  pub task_inside : (k j : ℕ) → j < records s → (record_of s j).task ≡ k → InTask s k j
+  task_inside k j within is =
       record {
         from = elim (lt_or_le j (records_before (records s) s k)) [
           | inl less ↦ absurd (omega (arith, before_is well k j within less))
@@ -70,7 +70,7 @@ module _ {s : List ℕ} (well : WellFormed s) where
   pub run_some : (k : ℕ) → k < (table_of s).tasks → 1 ≤ records_of (records s) s k
   run_some k below =
       let found = meets well (records s - 1) k (last_record well) (omega arith) in
-      let frame = task_in k found.place (omega (arith, found.up_to, last_record well)) found.is in
+      let frame = task_inside k found.place (omega (arith, found.up_to, last_record well)) found.is in
       omega (arith, frame.from, frame.to)
 
   pub run_few : (k : ℕ) → records_of (records s) s k ≤ 16

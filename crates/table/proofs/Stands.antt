@@ -5,7 +5,7 @@ use mathlib.Core.Path.{◌≡◌, refl, sym, ap}
 use mathlib.Core.List.{List}
 use lib.ListN.{length, get_or}
 use native.Mathlib.Omega.{arith}
-use Rattle.laws.proofs.Fill.{tabulate_length, tabulate_at}
+use Rattle.laws.proofs.TabulateLaws.{tabulate_length, tabulate_at}
 use Rattle.table.specs.declared.plan.Plan.{Plan}
 use Rattle.table.specs.Bytes.{size, records}
 use Rattle.table.specs.WellFormed.{WellFormed}

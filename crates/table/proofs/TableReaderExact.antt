@@ -6,13 +6,13 @@ use mathlib.Core.Path.{◌≡◌, refl, sym}
 use mathlib.Core.List.{List}
 use lib.ListN.{length}
 use native.Mathlib.Omega.{arith}
+use Rattle.std.specs.Prelude.{Result, Ok, Err}
 use Rattle.laws.specs.Reader.{Read, whole, stopped, read_all}
 use Rattle.laws.proofs.ReaderExact.{Said, said, faultless_read, faulty_read}
 use Rattle.table.specs.declared.rules.SoFar.{SoFar}
 use Rattle.table.specs.declared.reader.Shape.{Shape}
-use Rattle.table.specs.declared.reader.Refusal.{Refusal}
-use Rattle.table.specs.declared.reader.Reading.{Reading}
-use Rattle.table.specs.declared.reader.Reading.TheVariants.{Table, Refused}
+use Rattle.table.specs.declared.fault.Refusal.{Refusal}
+use Rattle.table.specs.Faults.{refusal_at}
 use Rattle.table.specs.Bytes.{size, most_records, records}
 use Rattle.table.specs.TableReader.{table_reader, reading_in, reading_of}
 use Rattle.table.specs.WellFormed.{WellFormed}
@@ -24,9 +24,9 @@ use Rattle.table.proofs.Rising.{few_tasks}
 use Rattle.table.proofs.ReadLaws.{reading_stopped, reading_whole, reading_rules}
 
 -- what a reading says of the bytes
-abbrev Told : List ℕ → Reading → Type 0
-Told s (Table t) = WellFormed s
-Told s (Refused r) = TableRefused s r.number r.index
+abbrev Told : List ℕ → Result Shape Refusal → Type 0
+Told s (Ok t) = WellFormed s
+Told s (Err r) = TableRefused s r.number r.index
 
 told : (s : List ℕ) → Told s (reading_of s)
 unfolding reading_of
@@ -38,22 +38,22 @@ told s = from (read_all (table_reader s)) (said (reading_rules s))
 
 -- ---- a table is read exactly where the bytes are well formed
 
-pub read_good : (s : List ℕ) (t : Shape) → reading_of s ≡ Table t → WellFormed s
+pub read_good : (s : List ℕ) (t : Shape) → reading_of s ≡ Ok t → WellFormed s
 read_good s t is = rw is at (told s)
 
 pub good_read : (s : List ℕ) → WellFormed s →
-    reading_of s ≡ Table (record { records = records s; tasks = (table_of s).tasks })
+    reading_of s ≡ Ok (record { records = records s; tasks = (table_of s).tasks })
 good_read s well =
     let end = faultless_read (reading_rules s) (record { long = well.long; good = well.good }) in
     sym (reading_whole s end.is refl (before_it end.known (table_length_some well.long)).task)
 
 -- ---- a refusal is given exactly where document 01 gives it
 
-pub read_refused : (s : List ℕ) (r : Refusal) → reading_of s ≡ Refused r → TableRefused s r.number r.index
+pub read_refused : (s : List ℕ) (r : Refusal) → reading_of s ≡ Err r → TableRefused s r.number r.index
 read_refused s r is = rw is at (told s)
 
 pub refused_read : (s : List ℕ) (number index : ℕ) → TableRefused s number index →
-    reading_of s ≡ Refused (record { number = number; index = index })
+    reading_of s ≡ Err (refusal_at number index)
 refused_read s number index bad = sym (reading_stopped s (faulty_read (reading_rules s) number index bad))
 
 -- ---- what a caller that has read a table knows
@@ -66,7 +66,7 @@ pub record Shaped (s : List ℕ) (t : Shape) : Type 0 where
   pub few_records : t.records ≤ most_records
   pub few_tasks : t.tasks ≤ 16
 
-pub shaped : (s : List ℕ) (t : Shape) → reading_of s ≡ Table t → Shaped s t
+pub shaped : (s : List ℕ) (t : Shape) → reading_of s ≡ Ok t → Shaped s t
 shaped s t read =
     let well = read_good s t read in
     let records_are : t.records ≡ records s = cc (good_read s well) in

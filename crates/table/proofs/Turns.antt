@@ -20,14 +20,19 @@ pub record ReadsFew (s : List ℕ) (i : ℕ) (b : SoFar) : Type 0 where
   pub few : records s ≤ most_records
   pub frames : b.frames ≤ i
 
-pub few_start : (s : List ℕ) {bad : Bool} → bad ≡ bad_table_length (length s) → bad ≡ false
-    → ReadsFew s 0 nothing_known
-few_start s is fine =
-    record {
+-- before the first record all are zero
+pub nothing_said : {b : SoFar} → b.tasks ≡ 0 → b.frames ≡ 0 → b.kind ≡ 0 → b.p ≡ 0 → b ≡ nothing_known
+nothing_said tasks frames kind p = λ i. record { tasks = tasks i; frames = frames i; kind = kind i; p = p i }
+
+pub few_start : (s : List ℕ) {bad : Bool} {b : SoFar} → bad ≡ bad_table_length (length s) → bad ≡ false
+    → b ≡ nothing_known → ReadsFew s 0 b
+few_start s is fine nothing =
+    rw nothing
+    (record {
       on = reads_start (table_reader s) is fine;
       few = table_length_few ((catches_table_length (length s)).passed (sym is ∙ fine));
       frames = omega arith;
-    }
+    })
 
 -- the frames so far grow by at most 1
 frames_grow : (b : SoFar) (x : Record) → (table_after b x).frames ≤ b.frames + 1

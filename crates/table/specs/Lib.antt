@@ -1,4 +1,6 @@
 pub mod Bytes
+pub mod Faults
+pub mod Kinds
 pub mod TableRules
 pub mod WellFormed
 pub mod TableReader

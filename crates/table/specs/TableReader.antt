@@ -1,14 +1,14 @@
 -- The answer for any bytes taken as a table: document 01, "When the desk says no".
 -- "Tables are tested first: length, then records in order, in each record 2, 3, 4, 5, 6."
 -- Assumes nothing.
-use Rattle.std.specs.Prelude.{ℕ, ◌*◌, ◌%◌, List, Bool, not, ◌||◌, length, ltb, eqb}
+use Rattle.std.specs.Prelude.{ℕ, ◌*◌, ◌%◌, List, Bool, not, ◌||◌, length, ltb, eqb, Result, Ok, Err}
 use Rattle.laws.specs.Ladder.{climb}
 use Rattle.laws.specs.Reader.{Reader, Read, whole, stopped, read_all}
 use Rattle.table.specs.declared.record.Record.{Record}
 use Rattle.table.specs.declared.rules.SoFar.{SoFar}
-use Rattle.table.specs.declared.reader.Refusal.{Refusal}
-use Rattle.table.specs.declared.reader.Reading.{Reading}
-use Rattle.table.specs.declared.reader.Reading.TheVariants.{Table, Refused}
+use Rattle.table.specs.declared.fault.Refusal.{Refusal}
+use Rattle.table.specs.declared.reader.Shape.{Shape}
+use Rattle.table.specs.Faults.{refusal_at}
 use Rattle.table.specs.Bytes.{size, most_records, records, record_of}
 use Rattle.table.specs.TableRules.{nothing_known, table_after}
 use Rattle.table.specs.WellFormed.{table_rules}
@@ -35,14 +35,9 @@ table_reader s =
     }
 
 -- the answer, for n records
-abbrev pub reading_in : ℕ → Read SoFar → Reading
-reading_in n (whole b) = Table (record { records = n; tasks = b.tasks })
-reading_in n (stopped number index) = Refused (record { number = number; index = index })
+abbrev pub reading_in : ℕ → Read SoFar → Result Shape Refusal
+reading_in n (whole b) = Ok (record { records = n; tasks = b.tasks })
+reading_in n (stopped number index) = Err (refusal_at number index)
 
-unfoldable pub reading_of : List ℕ → Reading
+unfoldable pub reading_of : List ℕ → Result Shape Refusal
 reading_of s = reading_in (records s) (read_all (table_reader s))
-
--- the refusal that a reading carries
-abbrev pub table_refusal : Reading → Refusal
-table_refusal (Table t) = record { number = 0; index = 0 }
-table_refusal (Refused r) = r

@@ -8,16 +8,11 @@ pub const SIZE: usize = 8;
 #[derive(Clone, Copy)]
 pub struct Record {
     pub task: u8,
+    // the byte that was read: rule 3 refuses those that are no kind
     pub kind: u8,
     pub e: u16,
     pub d: u16,
     pub p: u16,
-}
-
-fn wide_byte(x: u8) -> u16
-    ensures { (result ≡ x) × (result < 256) }
-{
-    x as u16
 }
 
 // 16 bits at a place, low byte first.
@@ -25,7 +20,7 @@ pub fn half_at(s: &[u8], at: usize) -> u16
     requires { at + 1 < length s.now }
     ensures { result ≡ half s.now at }
 {
-    wide_byte(s[at]) + 256 * wide_byte(s[at + 1])
+    u16::from_le_bytes([s[at], s[at + 1]])
 }
 
 pub fn record_at(s: &[u8], i: usize) -> Record
@@ -33,16 +28,11 @@ pub fn record_at(s: &[u8], i: usize) -> Record
     ensures { result ≡ record_of s.now i }
 {
     let at = i * SIZE;
-    let task = s[at];
-    let kind = s[at + 1];
-    let e = half_at(s, at + 2);
-    let d = half_at(s, at + 4);
-    let p = half_at(s, at + 6);
     Record {
-        task,
-        kind,
-        e,
-        d,
-        p,
+        task: s[at],
+        kind: s[at + 1],
+        e: half_at(s, at + 2),
+        d: half_at(s, at + 4),
+        p: half_at(s, at + 6),
     }
 }

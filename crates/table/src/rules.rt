@@ -1,12 +1,16 @@
 // The rules 2 to 6, one under the other: document 01, "When the desk says no".
-ghost use Rattle.std.specs.Prelude.{◌≡◌, cond, ◌<◌};
+ghost use Rattle.std.specs.Prelude.{◌≡◌, ◌<◌};
+ghost use Rattle.table.specs.Faults.{faulted};
 ghost use Rattle.table.specs.TableReader.{table_fault};
-ghost use Rattle.table.specs.TableRules.{table_after};
+ghost use Rattle.table.specs.TableRules.{begins, goes_on, off_run, bad_kind, too_many, has_zero, uneven, table_after};
 
+use crate::fault::Fault;
+use crate::kind::Kind;
 use crate::record::Record;
 
-// What the records so far say: how many tasks, and of the last one its frames so far, its kind and its first P.
-#[derive(Clone, Copy)]
+// What the records so far say: how many tasks, and of the last one its frames so far, its kind and its first P. Before
+// the first record all are zero.
+#[derive(Clone, Copy, Default)]
 pub struct SoFar {
     pub tasks: u16,
     pub frames: u16,
@@ -14,60 +18,89 @@ pub struct SoFar {
     pub p: u16,
 }
 
-// The number of the first rule that is broken, or 0.
-fn first_of(r2: bool, r3: bool, r4: bool, r5: bool, r6: bool) -> u8
-    ensures { result ≡ cond r2 2 (cond r3 3 (cond r4 4 (cond r5 5 (cond r6 6 0)))) }
+fn has_zero(x: Record) -> bool
+    ensures { result ≡ has_zero x }
 {
-    if r2 {
-        2
-    } else if r3 {
-        3
-    } else if r4 {
-        4
-    } else if r5 {
-        5
-    } else if r6 {
-        6
-    } else {
-        0
+    x.e == 0 || x.d == 0 || x.p == 0
+}
+
+impl SoFar {
+    fn begins(self, x: Record) -> bool
+        ensures { result ≡ begins self x }
+    {
+        u16::from(x.task) == self.tasks
     }
-}
 
-pub fn table_fault(b: SoFar, x: Record) -> u8
-    ensures { result ≡ table_fault b x }
-{
-    let begins = x.task as u16 == b.tasks;
-    let more = x.task as u16 + 1 == b.tasks;
-    let r2 = (15 < x.task) | !(begins | more);
-    let r3 = (x.kind < 1) | (3 < x.kind) | (more & ((x.kind != b.kind) | (x.kind == 1)));
-    let r4 = more & (16 <= b.frames);
-    let r5 = (x.e == 0) | (x.d == 0) | (x.p == 0);
-    let r6 = (x.kind == 2) & ((x.d != x.p) | (more & (x.p != b.p)));
-    first_of(r2, r3, r4, r5, r6)
-}
+    fn goes_on(self, x: Record) -> bool
+        ensures { result ≡ goes_on self x }
+    {
+        u16::from(x.task) + 1 == self.tasks
+    }
 
-fn choose_known(first: bool, a: SoFar, b: SoFar) -> SoFar
-    ensures { result ≡ cond first a b }
-{
-    if first { a } else { b }
-}
+    fn is_off_run(self, x: Record) -> bool
+        ensures { result ≡ off_run self x }
+    {
+        15 < x.task || !(self.begins(x) || self.goes_on(x))
+    }
 
-pub fn table_after(b: SoFar, x: Record) -> SoFar
-    requires { b.frames < 1000 }
-    ensures { result ≡ table_after b x }
-{
-    let begins = x.task as u16 == b.tasks;
-    let next = SoFar {
-        tasks: x.task as u16 + 1,
-        frames: 1,
-        kind: x.kind,
-        p: x.p,
-    };
-    let same = SoFar {
-        tasks: b.tasks,
-        frames: b.frames + 1,
-        kind: b.kind,
-        p: b.p,
-    };
-    choose_known(begins, next, same)
+    fn is_bad_kind(self, x: Record) -> bool
+        ensures { result ≡ bad_kind self x }
+    {
+        let Ok(kind) = Kind::try_from(x.kind) else {
+            return true;
+        };
+        self.goes_on(x) && (x.kind != self.kind || kind == Kind::Sporadic)
+    }
+
+    fn is_too_many(self, x: Record) -> bool
+        ensures { result ≡ too_many self x }
+    {
+        self.goes_on(x) && 16 <= self.frames
+    }
+
+    fn is_uneven(self, x: Record) -> bool
+        ensures { result ≡ uneven self x }
+    {
+        Kind::try_from(x.kind) == Ok(Kind::Multiframe)
+            && (x.d != x.p || self.goes_on(x) && x.p != self.p)
+    }
+
+    // The first rule that record x breaks after these.
+    pub fn fault(self, x: Record) -> Option<Fault>
+        ensures { faulted result ≡ table_fault self x }
+    {
+        if self.is_off_run(x) {
+            return Some(Fault::OffRun);
+        }
+        if self.is_bad_kind(x) {
+            return Some(Fault::BadKind);
+        }
+        if self.is_too_many(x) {
+            return Some(Fault::TooMany);
+        }
+        if has_zero(x) {
+            return Some(Fault::HasZero);
+        }
+        self.is_uneven(x).then_some(Fault::Uneven)
+    }
+
+    // What is known after record x, which breaks none.
+    pub fn after(self, x: Record) -> SoFar
+        requires { self.frames < 1000 }
+        ensures { result ≡ table_after self x }
+    {
+        if self.begins(x) {
+            SoFar {
+                tasks: u16::from(x.task) + 1,
+                frames: 1,
+                kind: x.kind,
+                p: x.p,
+            }
+        } else {
+            SoFar {
+                frames: self.frames + 1,
+                ..self
+            }
+        }
+    }
 }

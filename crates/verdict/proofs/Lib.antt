@@ -1,1 +1,2 @@
-pub mod StartIn
+pub mod TurnLaws
+pub mod CloseTest

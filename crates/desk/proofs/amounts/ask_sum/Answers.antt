@@ -1,16 +1,28 @@
--- `ask_sum` meets its contract: the table's refusal is passed on; a table is asked.
+-- `ask_sum` meets its contract: 9, then 7, then the task's peak.
 -- Assumes nothing.
-use mathlib.Core.Path.{sym, ap, ◌∙◌}
-use Rattle.desk.specs.Flat.{flat_amount}
-use Rattle.desk.proofs.AskLaws.{passed_on}
+use mathlib.Core.Path.{ap, ◌∙◌}
+use Rattle.std.proofs.Common.{Ok, Err, rules}
+use Rattle.model.specs.Verdict.{horizon}
+use Rattle.sums.specs.Sized.{peak_by}
+use Rattle.desk.specs.Questions.{one_task}
+use Rattle.desk.specs.Said.{result_of}
+use Rattle.desk.proofs.AskLaws.{of_read, task_too_far, task_said}
 use Rattle.desk.proofs.amounts.ask_sum.Goals as goal
 
--- refused
-pub returns-in_default : goal.returns-in_default
-unfolding flat_amount
-returns-in_default c =
-    ap flat_amount (passed_on _ _ c.read_table-reading.ensures c.in_default.is
-    c.table_refusal.ensures)
+-- t is too far
+pub returns-then-t-gt-HORIZON : goal.returns-then-t-gt-HORIZON
+unfolding horizon
+returns-then-t-gt-HORIZON c =
+    let table = c.in_ok-table.table in
+    let by = peak_by c.args.which in
+    of_read (λ b. result_of (one_task by b c.args.task c.args.t)) table c.in_ok-table.ensures.bytes
+    (ap Err c.alone-then-t-gt-HORIZON.ensures
+    ∙ task_too_far table by c.args.task c.args.t (search rules) (search rules))
 
-pub sum_in-requires : goal.sum_in-requires
-sum_in-requires c = sym c.read_table-reading.ensures ∙ c.in-Table.is
+pub returns : goal.returns
+unfolding horizon
+returns c =
+    let table = c.in_ok-table.table in
+    let by = peak_by c.args.which in
+    of_read (λ b. result_of (one_task by b c.args.task c.args.t)) table c.in_ok-table.ensures.bytes
+    (ap Ok c.peak_of.ensures.sum_is ∙ task_said table by c.args.task c.args.t (search rules) (search rules))

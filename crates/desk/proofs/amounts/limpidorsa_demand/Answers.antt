@@ -1,9 +1,11 @@
--- `limpidorsa_demand` meets its contract: it is the sum by deadline.
+-- `limpidorsa_demand` meets its contract: what is asked, laid flat.
 -- Assumes nothing.
-use Rattle.std.proofs.Common.{rules}
+use mathlib.Core.Path.{ap, ◌∙◌}
+use Rattle.desk.specs.Laid.{laid_amount}
 use Rattle.desk.specs.Questions.{demand_asked}
+use Rattle.desk.proofs.LaidLaws.{amount_laid}
 use Rattle.desk.proofs.amounts.limpidorsa_demand.Goals as goal
 
 pub returns : goal.returns
 unfolding demand_asked
-returns c = search rules
+returns c = c.from.ensures ∙ ap laid_amount c.ask_sum.ensures ∙ amount_laid _

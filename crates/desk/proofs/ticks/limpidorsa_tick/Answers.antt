@@ -15,7 +15,4 @@ returns-then-state-gt-LAST_TICK c = flat_tick_past _ (search rules) c.if-state-g
 
 pub returns : goal.returns
 unfolding last_tick
-returns c =
-    let ticked = c.tick in
-    flat_tick_running _ (search rules) (search rules) c.running.ensures ticked.ensures
-    c.flat_bench.ensures
+returns c = flat_tick_running _ (search rules) (search rules) c.running.ensures c.tick.ensures c.from.ensures

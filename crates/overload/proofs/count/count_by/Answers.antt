@@ -1,26 +1,37 @@
 -- The answers that `count_by` is asked for.
 -- Assumes nothing.
-use Rattle.std.proofs.Common.{rules}
+use mathlib.Core.Path.{sym}
 use native.Mathlib.Omega.{arith}
-use Rattle.table.proofs.ReadyLaws.{ready_tasks, ready_proper}
-use Rattle.overload.proofs.CountLaws.{counting_start, counting_end, counting_less, counting_on}
+use borrow.Author.Tests.{le-leb, lt-leb}
+use Rattle.std.proofs.Common.{true, false, rules}
+use Rattle.table.proofs.ReadyLaws.{run_count}
+use Rattle.overload.proofs.CountLaws.{counting_start, counting_end, counting_on}
 use Rattle.overload.proofs.count.count_by.Goals as goal
-
-pub count_frames-frames-requires : goal.count_frames-frames-requires
-count_frames-frames-requires c = (search rules, omega (arith, ready_tasks c.requires.0))
+use Rattle.overload.proofs.count.count_by.Goals.{then-from-left, else-from-left}
 
 pub loop-left-init : goal.loop-left-init
-loop-left-init c =
-    let good = ready_proper c.requires.0 (search rules) in
-    counting_start (good.proper c.args.k (search rules)) _ _ (search rules)
+loop-left-init c = counting_start _ _ _ (omega (arith, c.requires.inside, run_count c.args.task.now))
 
-pub loop-left-smaller : goal.loop-left-smaller
-loop-left-smaller c =
-    counting_less c.loop-left.invariant c.frame_at-x.result (search rules) (search rules) (search rules)
+pub frame-x-requires : goal.frame-x-requires
+frame-x-requires c = omega (arith, c.loop-left.invariant.inside, run_count c.args.task.now)
+
+pub next-i-requires : goal.next-i-requires
+next-i-requires c = omega (arith, c.loop-left.invariant.inside, run_count c.args.task.now)
 
 pub loop-left-preserved : goal.loop-left-preserved
 loop-left-preserved c =
-    counting_on c.loop-left.invariant c.count_frames-frames.result c.frame_at-x.result (search rules)
+    let task = c.args.task.now in
+    let x = c.frame-x.result in
+    let inv = c.loop-left.invariant in
+    let next = rw (sym (run_count task)) at c.next-i.ensures in
+    elim c.if-from-left.branch [
+      | then-from-left w ↦
+          let fits = le-leb x.d c.loop-left.left (search rules) in
+          counting_on task.proper inv x true (search rules) w.many-is
+      | else-from-left w ↦
+          let late = lt-leb x.d c.loop-left.left (search rules) in
+          counting_on task.proper inv x false (search rules) w.many-is
+    ]
 
 pub returns : goal.returns
-returns c = counting_end c.loop-left.invariant (search rules)
+returns c = counting_end c.args.task.now.proper c.loop-left.invariant (search rules)

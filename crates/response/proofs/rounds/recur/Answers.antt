@@ -7,18 +7,11 @@ use Rattle.response.proofs.RoundLaws.{rounds_rise}
 use Rattle.response.proofs.AnswerLaws.{recurring_start, recurring_late, recurring_on_time, recurring_on}
 use Rattle.response.proofs.rounds.recur.Goals as goal
 
--- a value of the recurrence is far below 2 ^ 64
-pub overflow_add-next : goal.overflow_add-next
-overflow_add-next c = let share = c.add_shares.ensures in omega (arith, share.at_most)
-
 -- the value is repeated
 pub returns-then-next-value : goal.returns-then-next-value
 returns-then-next-value c =
     let share = c.add_shares.ensures in
     recurring_on_time c.loop-value.invariant share.is (search rules) c.if-next-value.true
-
-pub overflow_add-round : goal.overflow_add-round
-overflow_add-round c = omega (arith, c.loop-value.invariant.rounds.few)
 
 pub loop-value-smaller : goal.loop-value-smaller
 loop-value-smaller c =

@@ -3,12 +3,12 @@
 -- Assumes nothing.
 use Prim.Native.Nat.{suc, ◌-◌}
 use Rattle.model.specs.Response.{higher_share}
-use Rattle.table.specs.TableOf.{table_of}
+use Rattle.table.specs.Ready.{table_in}
 use Rattle.response.proofs.AnswerLaws.{Recurring}
 use Rattle.response.proofs.rounds.recur.Given as goal
 
 abbrev pub invariant-loop-value : goal.invariant-loop-value
-invariant-loop-value l = Recurring (higher_share (table_of l.s) l.k) l.start l.end l.value l.round
+invariant-loop-value l = Recurring (higher_share (table_in l.table) l.k) l.start l.end l.value l.round
 
 abbrev pub decreases-loop-value : goal.decreases-loop-value
 decreases-loop-value l = suc l.end - l.value

@@ -3,7 +3,7 @@
 use native.Mathlib.Omega.{arith}
 use Rattle.std.proofs.Common.{rules}
 use Rattle.laws.proofs.Adding.{adding_none, adding_room, adding_on}
-use Rattle.table.proofs.ReadyLaws.{ready_here, ready_few, ready_low}
+use Rattle.table.proofs.ReadyLaws.{ready_of, ready_few}
 use Rattle.response.proofs.ShareWalkLaws.{shares_added}
 use Rattle.response.proofs.share.add_shares.Goals as goal
 
@@ -13,7 +13,7 @@ loop-j-init c = adding_none _ _ _
 -- fewer than sixteen tasks stand above one of sixteen, and w is not past the ceiling: far below 2 ^ 64
 pub overflow_add-sum : goal.overflow_add-sum
 overflow_add-sum c =
-    let low = ready_low c.requires.0 c.args.k c.requires.1 in
+    let few = ready_few (ready_of c.args.table.now) in
     omega (arith, adding_room c.loop-j.invariant 16 (omega arith), c.share_of-sum.ensures.at_most)
 
 pub loop-j-preserved : goal.loop-j-preserved
@@ -23,5 +23,4 @@ loop-j-preserved c =
 
 pub returns : goal.returns
 returns c =
-    let here = ready_here c.requires.0 c.args.k c.requires.1 in
-    shares_added c.loop-j.invariant (omega arith) (ready_few c.requires.0) (search rules)
+    shares_added c.loop-j.invariant (omega (arith, c.requires.0)) (ready_few (ready_of c.args.table.now)) (search rules)

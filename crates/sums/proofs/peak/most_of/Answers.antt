@@ -1,26 +1,23 @@
 -- The answers that `most_of` is asked for.
 -- Assumes nothing.
-use Rattle.std.proofs.Common.{rules}
 use native.Mathlib.Omega.{arith}
-use Rattle.table.specs.TableOf.{task_of}
-use Rattle.sums.proofs.MostLaws.{trying_none, trying_on, trying_end}
+use Rattle.table.proofs.ReadyLaws.{run_count}
+use Rattle.sums.proofs.MostLaws.{trying_none, trying_more, trying_kept, trying_end}
+use Rattle.sums.proofs.peak.most_of.Goals.{then-peak-sum, else-peak-sum}
 use Rattle.sums.proofs.peak.most_of.Goals as goal
 
 pub loop-start-init : goal.loop-start-init
 loop-start-init c = trying_none _ _ _
 
-pub overflow_add-start : goal.overflow_add-start
-unfolding task_of
-overflow_add-start c = omega arith
-
-pub loop-start-smaller : goal.loop-start-smaller
-loop-start-smaller c = omega arith
-
 pub loop-start-preserved : goal.loop-start-preserved
-unfolding task_of
 loop-start-preserved c =
-    trying_on c.loop-start.invariant c.count_from-sum.result (search rules) (search rules) (search rules)
+    let trying = c.loop-start.invariant in
+    elim c.if-peak-sum.branch [
+      | then-peak-sum w ↦ rw w.peak-is (trying_more trying c.count_from-sum.ensures w.if-peak-sum.true)
+      | else-peak-sum w ↦ rw w.peak-is (trying_kept trying c.count_from-sum.ensures w.if-peak-sum.false)
+    ]
 
 pub returns : goal.returns
-unfolding task_of
-returns c = trying_end c.loop-start.invariant (search rules) (search rules)
+returns c =
+    trying_end c.loop-start.invariant c.args.run.now.proper.some
+    (omega (arith, c.loop-start.auto.start-end, run_count c.args.run.now))

@@ -1,54 +1,73 @@
 -- The answers that `judge_to` is asked for.
 -- Assumes nothing.
-use mathlib.Core.Bool.{cond}
-use mathlib.Core.Path.{◌≡◌, ◌∙◌, ap}
-use Prim.Native.Nat.{ℕ, ◌-◌, ◌≤◌, min}
-use lib.Dec.{ltb}
+use mathlib.Core.Path.{◌∙◌, ap, ap₂}
+use mathlib.Core.List.{List}
+use Prim.Native.Nat.{ℕ}
+use lib.IntN.{ℤ, sub_ℕ}
+use mir.Syntax.{w64}
+use mir.Facts.{to_z_pos}
 use native.Mathlib.Omega.{arith}
 use Rattle.std.proofs.Common.{rules}
-use Rattle.model.specs.Task.{Table}
-use Rattle.model.specs.Demand.{all_demands}
+use Rattle.laws.proofs.SignedLaws.{signed_kept}
+use Rattle.model.specs.Verdict.{overloaded, overloaded_at, fits}
 use Rattle.model.proofs.Walking.{WalkingTurn, walking_start, walking_end, walking_over, walking_fits, walking_on}
-use Rattle.table.proofs.ReadyLaws.{ready_proper}
+use Rattle.table.specs.Ready.{table_in}
+use Rattle.table.proofs.ReadyLaws.{table_proper}
 use Rattle.sums.proofs.TotalLaws.{demands_are, work_is}
-use Rattle.verdict.specs.VerdictWritten.{judged_of}
+use Rattle.verdict.specs.VerdictWritten.{verdict_of}
+use Rattle.verdict.proofs.TurnLaws.{lower_turn, equal_turn}
+use Rattle.verdict.proofs.judge.judge_to.Goals.{After-total, then-margin-low, else-margin-low}
 use Rattle.verdict.proofs.judge.judge_to.Goals as goal
 
--- what t brings where it is no overload
-tried : {table : Table} {limit t low at d low' at' : ℕ} → t ≤ limit → d ≡ all_demands table t → d ≤ t
-    → low' ≡ min low (t - d) → at' ≡ cond (ltb (t - d) low) t at → WalkingTurn table limit t low at d low' at'
-tried more asked calm low_is at_is =
-    record { more = more; asked = asked; calm = calm; low_is = low_is; at_is = at_is }
+pub loop-t-init : goal.loop-t-init
+loop-t-init c = walking_start (table_proper c.args.table.now) _
 
 -- an overload at t
 pub returns-then-t-asked : goal.returns-then-t-asked
+unfolding overloaded_at
 returns-then-t-asked c =
-    let good = ready_proper c.requires.0 (search rules) in
     let demands = demands_are c.total-asked.ensures in
-    c.overload_at.ensures ∙ ap judged_of (walking_over good _ c.loop-t.invariant (search rules) (omega arith))
+    let made = c.spare in
+    ap₂ (λ (m : ℤ) (l : List ℕ). verdict_of (overloaded c.loop-t.t m l))
+    (signed_kept made.result made.type_inv ∙ made.ensures ∙ ap (sub_ℕ c.loop-t.t) demands)
+    c.starts_at.ensures
+    ∙ ap verdict_of (walking_over (table_proper c.args.table.now) _ c.loop-t.invariant (search rules) (omega arith))
+
+-- t is tried, and is no overload
+turn : (c : After-total)
+    → WalkingTurn (table_in c.args.table.now) c.args.limit c.loop-t.t c.loop-t.low c.loop-t.at c.total-asked.result
+    c.if-margin-low.low c.if-margin-low.at
+turn c =
+    let demands = demands_are c.total-asked.ensures in
+    elim c.if-margin-low.branch [
+      | then-margin-low w ↦
+          rw (w.low-is, w.at-is) (lower_turn (omega arith) demands (search rules) w.if-margin-low.true)
+      | else-margin-low w ↦
+          rw (w.low-is, w.at-is) (equal_turn (omega arith) demands (search rules) w.if-margin-low.false)
+    ]
 
 -- t closes
-pub returns-then-work-t : goal.returns-then-work-t
-returns-then-work-t c =
-    let good = ready_proper c.requires.0 (search rules) in
-    let turn = tried (search rules) (demands_are c.total-asked.ensures) (search rules) c.lesser-low.ensures
-    c.first_low-at.ensures in
-    let work = work_is c.total-work.ensures in
-    c.fit_in.ensures ∙ ap judged_of (walking_fits good _ c.loop-t.invariant turn (omega arith))
+pub returns-then-total-t : goal.returns-then-total-t
+returns-then-total-t c =
+    let good = table_proper c.args.table.now in
+    let tried = turn (goal.at.returns-then-total-t c).After-total in
+    let work = work_is c.total.ensures in
+    ap (λ (m : ℤ). verdict_of (fits c.loop-t.t m c.if-margin-low.at)) (to_z_pos w64 (search rules))
+    ∙ ap verdict_of (walking_fits good _ c.loop-t.invariant tried (omega arith))
 
 pub loop-t-preserved : goal.loop-t-preserved
 loop-t-preserved c =
-    let good = ready_proper c.requires.0 (search rules) in
-    let turn = tried (search rules) (demands_are c.total-asked.ensures) (search rules) c.lesser-low.ensures
-    c.first_low-at.ensures in
-    let work = work_is c.total-work.ensures in
-    walking_on good _ c.loop-t.invariant turn (omega arith)
+    let tried = turn (goal.at.loop-t-preserved c).After-total in
+    let work = work_is c.total.ensures in
+    walking_on (table_proper c.args.table.now) _ c.loop-t.invariant tried (omega arith)
 
--- no t is left
+-- no t is left: the last does not close, or there is none to try
+pub returns-else-total-t : goal.returns-else-total-t
+returns-else-total-t c =
+    let good = table_proper c.args.table.now in
+    let tried = turn (goal.at.returns-else-total-t c).After-total in
+    let work = work_is c.total.ensures in
+    ap verdict_of (walking_end good _ (walking_on good _ c.loop-t.invariant tried (omega arith)) (search rules))
+
 pub returns : goal.returns
-returns c =
-    let good = ready_proper c.requires.0 (search rules) in
-    ap judged_of (walking_end good _ c.loop-t.invariant (search rules))
-
-pub loop-t-init : goal.loop-t-init
-loop-t-init c = walking_start (ready_proper c.requires.0 (search rules)) _
+returns c = ap verdict_of (walking_end (table_proper c.args.table.now) _ c.loop-t.invariant (search rules))

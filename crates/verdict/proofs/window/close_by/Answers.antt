@@ -1,31 +1,15 @@
--- The answers that `close_by` is asked for.
+-- `close_by` meets its contract: what was found is the least window that closes.
 -- Assumes nothing.
-use mathlib.Core.Path.{ap}
+use Rattle.std.proofs.Common.{rules, tests}
 use native.Mathlib.Omega.{arith}
-use Rattle.std.proofs.Common.{rules}
-use Rattle.laws.proofs.SearchLaws.{seeking_start, seeking_hit, seeking_on, seeking_end}
+use Rattle.laws.proofs.FindLaws.{find_up_to}
 use Rattle.model.specs.Verdict.{closing_window}
-use Rattle.model.proofs.ClosingLaws.{closes_yes, closes_no}
-use Rattle.sums.proofs.TotalLaws.{work_is}
-use Rattle.verdict.specs.VerdictWritten.{closing_of}
+use Rattle.verdict.proofs.CloseTest.{close_test}
 use Rattle.verdict.proofs.window.close_by.Goals as goal
 
-pub loop-w-init : goal.loop-w-init
-loop-w-init c = seeking_start _ _ _
-
--- the window closes
-pub returns-then-work-w : goal.returns-then-work-w
-unfolding closing_window
-returns-then-work-w c =
-    let work = work_is c.total-work.ensures in
-    ap closing_of (seeking_hit c.loop-w.invariant (search rules) (closes_yes _ _ (omega arith)))
-
-pub loop-w-preserved : goal.loop-w-preserved
-loop-w-preserved c =
-    let work = work_is c.total-work.ensures in
-    seeking_on c.loop-w.invariant (search rules) (closes_no _ _ (omega arith))
-
--- none does
 pub returns : goal.returns
 unfolding closing_window
-returns c = ap closing_of (seeking_end c.loop-w.invariant (search rules))
+returns c =
+    let range = c.new.ensures in
+    find_up_to _ _ 1 _ range.start (omega (arith, range.end)) range.exhausted c.find.ensures.ran
+    (λ x b q k. search (rules, tests, close_test))

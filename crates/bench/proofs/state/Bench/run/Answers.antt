@@ -6,21 +6,17 @@ use Rattle.bench.proofs.TickLaws.{tick_stopped}
 use Rattle.bench.proofs.Ticking.{ticking_start, ticking_stop, ticking_on, ticking_end}
 use Rattle.bench.proofs.state.Bench.run.Goals as goal
 
-pub loop-ticks-init : goal.loop-ticks-init
-loop-ticks-init c = ticking_start _
+pub loop-init : goal.loop-init
+loop-init c = ticking_start _
 
 -- the bench is stopped
 pub returns-in_default : goal.returns-in_default
-returns-in_default c = ticking_stop c.loop-ticks.invariant (tick_stopped _ c.in_default.not-Running)
+returns-in_default c = ticking_stop c.loop.invariant (tick_stopped _ c.in_default.not-Running)
 
-pub loop-ticks-smaller : goal.loop-ticks-smaller
+pub loop-preserved : goal.loop-preserved
 unfolding last_tick
-loop-ticks-smaller c = search rules
-
-pub loop-ticks-preserved : goal.loop-ticks-preserved
-unfolding last_tick
-loop-ticks-preserved c = ticking_on c.loop-ticks.invariant (search rules) c.tick-b.ensures
+loop-preserved c = ticking_on c.loop.invariant (search rules) (search rules)
 
 pub returns : goal.returns
 unfolding last_tick
-returns c = ticking_end c.loop-ticks.invariant (search rules)
+returns c = ticking_end c.loop.invariant (search rules)

@@ -1,7 +1,7 @@
 // The request that a tick serves: of those that are ready, the first in the order.
 ghost use Rattle.std.specs.Prelude.{◌≡◌, ◌<◌, IfSome};
 ghost use Rattle.laws.specs.Search.{option_of};
-ghost use Rattle.model.specs.Machine.{sooner, ready};
+ghost use Rattle.model.specs.Machine.{ready};
 ghost use Rattle.requests.specs.Entry.{most_requests};
 ghost use Rattle.bench.specs.Rule.{jobs_in, next_in};
 ghost use Rattle.bench.specs.Scan.{HasUnit};
@@ -18,26 +18,13 @@ impl Bench {
         self.release[k] <= self.tick && self.left[k] > 0
     }
 
-    // "the earliest deadline, ties by lower task, then earlier arrival"
-    fn goes_before(&self, i: usize, j: usize) -> bool
-        requires { (i < most_requests) × (j < most_requests) }
-        ensures { result ≡ sooner (jobs_in self.now) i j }
-    {
-        (self.due[i], self.task[i], self.arrive[i]) < (self.due[j], self.task[j], self.arrive[j])
-    }
-
     // "the arrived, unfinished request with the earliest deadline", over all the slots.
     pub(crate) fn next(&self) -> Option<usize>
         ensures first { result ≡ option_of (next_in self.now) }
         ensures has_unit { IfSome result (HasUnit self.now) }
     {
-        // not by `min_by_key`, whose contract does not say which of equals it takes
-        let mut best = None;
-        for i in 0..MOST_REQUESTS {
-            if self.is_ready(i) && best.is_none_or(|b| self.goes_before(i, b)) {
-                best = Some(i);
-            }
-        }
-        best
+        (0..MOST_REQUESTS)
+            .filter(|&k| self.is_ready(k))
+            .min_by_key(|&k| (self.due[k], self.task[k], self.arrive[k]))
     }
 }

@@ -9,6 +9,7 @@ pub mod GateLaws
 pub mod LadderLaws
 pub mod LastLaws
 pub mod LastZero
+pub mod LeastByKey
 pub mod LeastLaws
 pub mod NthLaws
 pub mod PeakLaws

@@ -5,6 +5,7 @@ use mathlib.Core.Path.{◌≡◌, refl, ◌∙◌, ap, subst}
 use Prim.Native.Nat.{ℕ, zero, suc, ◌<◌}
 use native.Mathlib.Omega.{arith}
 use Rattle.laws.specs.Search.{Found, at, nowhere}
+use Rattle.laws.proofs.LeastByKey.{FromBelow}
 use Rattle.model.specs.Machine.{Order, first_of, pick}
 
 module _ (test : ℕ → Bool) (before : Order) where
@@ -31,6 +32,10 @@ module _ (test : ℕ → Bool) (before : Order) where
 
     pub pick_keeps : before n b ≡ false → pick test before (suc n) ≡ at b
     pick_keeps later = pick_tries n passes ∙ ap (first_of before n) best ∙ ap (λ t. cond t (at n) (at b)) later
+
+  pub picked_from_below : FromBelow test before (pick test before)
+  picked_from_below =
+      record { start = pick_start; skips = pick_skips; first = pick_first; wins = pick_wins; keeps = pick_keeps }
 
   -- ---- what is picked passes, and is below the end
 

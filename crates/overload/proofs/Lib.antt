@@ -2,7 +2,6 @@ pub mod Shown
 pub mod CountLaws
 pub mod LaneLaws
 pub mod FirstRuns
-pub mod FrontLaws
 pub mod MoveLaws
 pub mod StandLaws
 pub mod WeaveTurns

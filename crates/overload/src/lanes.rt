@@ -63,14 +63,8 @@ impl Lanes {
         requires { tasks ≤ 16 }
         ensures { result ≡ option_of (front tasks self.now) }
     {
-        // not by `min_by_key`, whose contract does not say which of equals it takes
-        let mut best: Option<usize> = None;
-        for k in 0..tasks {
-            let lane = self.each[k];
-            if 0 < lane.left && best.is_none_or(|b| lane.arrival < self.each[b].arrival) {
-                best = Some(k);
-            }
-        }
-        best
+        (0..tasks)
+            .filter(|&k| 0 < self.each[k].left)
+            .min_by_key(|&k| self.each[k].arrival)
     }
 }

@@ -1,30 +1,26 @@
--- The answers that `front` is asked for.
+-- `front` meets its contract: of the tasks with requests left, `min_by_key` answers the first whose next comes first.
 -- Assumes nothing.
-use Prim.Native.Nat.{◌<◌}
-use native.Mathlib.Omega.{arith}
-use Rattle.std.proofs.Common.{rules}
-use Rattle.overload.proofs.FrontLaws.{front_start, front_low, front_skips, front_takes, front_stays, front_end}
+use Rattle.std.proofs.Common.{rules, tests, arith}
+use Rattle.std.proofs.lemmas.Bool.Decides.{nat_tests}
+use Rattle.laws.proofs.LeastByKey.{callable_below, least_below}
+use Rattle.model.specs.Machine.{pick}
+use Rattle.model.proofs.PickLaws.{picked_from_below}
+use Rattle.overload.specs.Lanes.{lane, has_more, comes_before, front}
 use Rattle.overload.proofs.lanes.Lanes.front.Goals as goal
-use Rattle.overload.proofs.lanes.Lanes.front.Goals.{then-lane-gt0+then-is_none_or, else-lane-gt0, else-lane-gt0-via-then-lane-gt0+else-is_none_or, else-lane-gt0-via-else-lane-gt0}
 
-pub loop-k-init : goal.loop-k-init
-loop-k-init c = front_start
-
-pub is_none_or-requires : goal.is_none_or-requires
-is_none_or-requires c = λ b is. let low : b < 16 = front_low c.loop-k.invariant (omega arith) b is in search rules
-
-pub loop-k-preserved : goal.loop-k-preserved
-loop-k-preserved c =
-    let inv = c.loop-k.invariant in
-    elim c.if-lane-gt0.branch [
-      | then-lane-gt0+then-is_none_or w ↦ rw w.best-is (front_takes inv (search rules) (search rules))
-      | else-lane-gt0 w ↦ rw w.best-is
-          (elim w.else-lane-gt0.branch [
-            | else-lane-gt0-via-then-lane-gt0+else-is_none_or v ↦
-                front_stays inv (search rules) (search rules)
-            | else-lane-gt0-via-else-lane-gt0 v ↦ front_skips inv (search rules)
-          ])
-    ]
+pub min_by_key-requires-clause-callable : goal.min_by_key-requires-clause-callable
+min_by_key-requires-clause-callable c =
+    callable_below c.args.tasks (has_more c.args.self.now) c.filter.ensures.source c.filter.ensures.closure
+    (λ x r q k. search (rules, tests)) _ (λ x r q k. search rules) (λ x low. search (rules, tests))
 
 pub returns : goal.returns
-returns c = front_end c.loop-k.invariant (search rules)
+unfolding front
+returns c =
+    let lanes = c.args.self.now in
+    let test = has_more lanes in
+    let before = comes_before lanes in
+    least_below c.args.tasks test c.filter.ensures.source c.filter.ensures.closure
+    (λ x r q k. search (rules, tests)) _ (λ k. (lane lanes k).arrival) before (pick test before)
+    (λ x r q k. search (rules, tests)) c.min_by_key.ensures.ran
+    (picked_from_below test before)
+    (λ m k. grind (arith, nat_tests))

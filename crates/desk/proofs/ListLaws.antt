@@ -9,6 +9,7 @@ use Rattle.model.specs.Request.{Requests}
 use Rattle.table.specs.declared.fault.Refusal.{Refusal}
 use Rattle.table.specs.declared.task_table.TaskTable.{TaskTable}
 use Rattle.table.specs.Ready.{table_in}
+use Rattle.table.specs.TableReader.{reading_of}
 use Rattle.table.proofs.ReadyLaws.{table_proper}
 use Rattle.requests.specs.Entry.{list_of}
 use Rattle.requests.specs.ListReader.{check_of}
@@ -17,6 +18,11 @@ use Rattle.requests.proofs.ListReaderExact.{check_count}
 use Rattle.requests.proofs.AcceptedLaws.{listed}
 use Rattle.desk.specs.ListQuestions.{on_list, counts}
 use Rattle.desk.specs.Said.{result_of, result_by}
+
+-- no list is looked at beside bytes that are no table
+pub list_unread : (s list : List ℕ) {no : Refusal} → reading_of s ≡ Err no → {A B : Type 0} (value : A → B)
+    (ask : Table → Requests → A) → Err no ≡ result_by value (on_list s list ask)
+list_unread s list told value ask = rw told refl
 
 module _ (table : TaskTable) (list : List ℕ) where
   few : (table_in table).tasks ≤ 16
@@ -34,6 +40,10 @@ module _ (table : TaskTable) (list : List ℕ) where
     -- a list that passed is one for the bench
     pub list_listed : Listed (table_in table) list n
     list_listed = listed (table_in table) few list n told
+
+  pub list_refused : {no : Refusal} → check_of (table_in table) list ≡ Err no → {A B : Type 0} (value : A → B)
+      (ask : Table → Requests → A) → Err no ≡ result_by value (on_list table.bytes.now list ask)
+  list_refused told value ask = rw (table.read, told) refl
 
   -- what the list's own check says is the answer
   pub list_said : check_of (table_in table) list ≡ result_of (on_list table.bytes.now list counts)

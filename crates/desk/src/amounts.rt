@@ -10,26 +10,28 @@ use crate::answers::{Amount, Margin, Shape};
 use crate::limits::HORIZON;
 use sums::asked::Sum;
 use table::fault::{Fault, Refusal};
+use table::reader::read_table;
 use table::task_table::TaskTable;
 
 // What the bytes are as a table. Refuses by the rules of a table, as every question does first.
 pub fn limpidorsa_read(table: &[u8]) -> Shape
     ensures { result ≡ flat_shape (read_asked table.now) }
 {
-    Shape::from(table::reader::read_table(table))
+    Shape::from(read_table(table))
 }
 
 // The demand of one task at t, or its work in t.
 fn ask_sum(table: &[u8], task: u64, t: u64, which: Sum) -> Result<u64, Refusal>
     ensures { result ≡ result_of (one_task (peak_by which) table.now task t) }
 {
-    let table = TaskTable::read(table)?;
-    if table.tasks() as u64 <= task {
+    let shape = read_table(table)?;
+    if shape.tasks as u64 <= task {
         return Err(Fault::NoSuchFrame.alone());
     }
     if HORIZON < t {
         return Err(Fault::TooFar.alone());
     }
+    let table = TaskTable::of(table, shape);
     Ok(sums::total::peak_of(&table, task as usize, t, which).sum)
 }
 
@@ -50,10 +52,11 @@ pub fn limpidorsa_work(table: &[u8], task: u64, w: u64) -> Amount
 fn ask_margin(table: &[u8], t: u64) -> Result<i64, Refusal>
     ensures { result ≡ result_of (at_time margin table.now t) }
 {
-    let table = TaskTable::read(table)?;
+    let shape = read_table(table)?;
     if HORIZON < t {
         return Err(Fault::TooFar.alone());
     }
+    let table = TaskTable::of(table, shape);
     Ok(sums::margin::spare(t, sums::total::total(&table, t, Sum::Demand)))
 }
 

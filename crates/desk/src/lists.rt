@@ -7,6 +7,7 @@ ghost use Rattle.desk.specs.FlatBench.{flat_loaded};
 ghost use Rattle.desk.specs.Said.{result_of, result_by, loading_pair};
 
 use crate::answers::{Ending, Listed, Loaded};
+use bench::load::load;
 use bench::replay::Replayed;
 use bench::state::Bench;
 use requests::list_reader::check_list;
@@ -33,14 +34,23 @@ fn ask_load(table: &[u8], list: &[u8]) -> Result<(usize, Bench), Refusal>
 {
     let table = TaskTable::read(table)?;
     let records = check_list(&table, list)?;
-    Ok((records, bench::load::load(&table, list, records)))
+    Ok((records, load(&table, list, records)))
 }
 
 // The bench loaded with a request list, before tick 0. Refuses with 10 or 11; the bench then has nothing to do.
 pub fn limpidorsa_load<'a, 'b>(table: &'a [u8], list: &'b [u8]) -> Loaded
     ensures { result ≡ flat_loaded (load_asked table.now list.now) }
 {
-    Loaded::from(ask_load(table, list))
+    // not from what `ask_load` says: a bench within a Result is copied twice more
+    let table = match TaskTable::read(table) {
+        Ok(table) => table,
+        Err(refusal) => return Loaded::from(Err(refusal)),
+    };
+    let records = match check_list(&table, list) {
+        Ok(records) => records,
+        Err(refusal) => return Loaded::from(Err(refusal)),
+    };
+    Loaded::from(Ok((records, load(&table, list, records))))
 }
 
 fn ask_replay(table: &[u8], list: &[u8]) -> Result<Replayed, Refusal>

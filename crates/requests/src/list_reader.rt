@@ -32,7 +32,7 @@ pub fn check_list(table: &TaskTable, list: &[u8]) -> Result<usize, Refusal>
         if let Some(fault) = known.fault(table, LAST_ARRIVAL, x) {
             return Err(fault.at(i));
         }
-        known = known.after(table, x);
+        known.after(table, x);
     }
     Ok(n)
 }

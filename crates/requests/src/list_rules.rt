@@ -86,16 +86,13 @@ impl Carry {
         self.is_out_of_turn(x).then_some(Fault::OutOfTurn)
     }
 
-    // What is known after record x, which breaks none.
-    pub fn after(mut self, table: &TaskTable, x: Entry) -> Carry
+    // Record x, which breaks none, is one of these.
+    pub fn after(&mut self, table: &TaskTable, x: Entry)
         requires { HasFrame (table_in table.now) x.task x.frame }
-        ensures { result ≡ list_after (table_in table.now) self x }
+        ensures { self.new ≡ list_after (table_in table.now) self.old x }
     {
         self.turns[usize::from(x.task)] = Some(Turn::after(table, x));
-        Carry {
-            arrival: x.arrival,
-            task: u16::from(x.task) + 1,
-            ..self
-        }
+        self.arrival = x.arrival;
+        self.task = u16::from(x.task) + 1;
     }
 }

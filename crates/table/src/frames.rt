@@ -15,7 +15,8 @@ pub fn following(frames: usize, i: usize) -> usize
 }
 
 impl TaskRun<'_> {
-    // Frame i.
+    // Frame i. The hint is for the sums, as that of `record_at`.
+    #[inline(always)]
     pub fn frame(&self, i: usize) -> Record
         requires { i < self.now.frames }
         ensures { FrameIs (task_in self.now) i result }

@@ -23,6 +23,8 @@ pub fn half_at(s: &[u8], at: usize) -> u16
     u16::from_le_bytes([s[at], s[at + 1]])
 }
 
+// Its fields are read where they are asked for; without the hint a step of a sum takes them out of one word.
+#[inline(always)]
 pub fn record_at(s: &[u8], i: usize) -> Record
     requires { (i + 1) * size ≤ length s.now }
     ensures { result ≡ record_of s.now i }

@@ -1,5 +1,5 @@
 // A table by its tasks: how it is read, how many there are, and each of them.
-ghost use Rattle.std.specs.Prelude.{◌≡◌, ◌<◌, IfOk};
+ghost use Rattle.std.specs.Prelude.{◌≡◌, ◌<◌, IfOk, Ok};
 ghost use Rattle.model.specs.Request.{HasFrame, no_frame};
 ghost use Rattle.table.specs.TableReader.{reading_of};
 ghost use Rattle.table.specs.Ready.{table_in, task_in, shape_of, StandsAt, FrameIs, Frames};
@@ -7,7 +7,7 @@ ghost use Rattle.table.specs.Ready.{table_in, task_in, shape_of, StandsAt, Frame
 use crate::fault::Refusal;
 use crate::place::Place;
 use crate::plan::make_plan;
-use crate::reader::read_table;
+use crate::reader::{Shape, read_table};
 use crate::record::Record;
 use crate::task_run::TaskRun;
 use crate::task_table::TaskTable;
@@ -19,11 +19,20 @@ impl<'a> TaskTable<'a> {
         ensures bytes { IfOk result (λ table. table.bytes.now ≡ bytes.now) }
     {
         let shape = read_table(bytes)?;
-        Ok(TaskTable {
+        Ok(TaskTable::of(bytes, shape))
+    }
+
+    // The table of bytes that were read. Apart from `read`, since a question that the shape or its own numbers refuse
+    // needs no plan, and that walks over all records 17 times.
+    pub fn of(bytes: &'a [u8], shape: Shape) -> TaskTable<'a>
+        requires { reading_of bytes.now ≡ Ok shape }
+        ensures { result.bytes.now ≡ bytes.now }
+    {
+        TaskTable {
             bytes,
             shape,
             plan: make_plan(bytes, shape.records, shape.tasks),
-        })
+        }
     }
 
     pub fn tasks(&self) -> usize

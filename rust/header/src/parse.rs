@@ -46,7 +46,7 @@ pub fn item(piece: &Piece) -> Result<Item, String> {
 
 // What says nothing of how an item lies in memory, or of its name.
 fn is_of_rattle(attribute: &str) -> bool {
-    ["#[derive(", "#[tactic("]
+    ["#[derive(", "#[inline(", "#[tactic("]
         .iter()
         .any(|begin| attribute.starts_with(begin))
 }

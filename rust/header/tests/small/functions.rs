@@ -74,6 +74,11 @@ pub fn f(x: &mut Inner) -> Either
     Either::A
 }
 
+#[inline(always)]
+pub fn h(x: Inner) -> Inner {
+    x
+}
+
 impl Inner {
     pub fn g(self) {}
 }

@@ -31,7 +31,7 @@ returns-in-Some c =
 pub loop-i-preserved : goal.loop-i-preserved
 unfolding last_arrival
 loop-i-preserved c =
-    reads_turn c.loop-i.invariant (search rules) c.entry_at-x.ensures c.in_default.ensures refl c.after-known.ensures
+    reads_turn c.loop-i.invariant (search rules) c.entry_at-x.ensures c.in_default.ensures refl c.after.ensures
 
 pub returns : goal.returns
 returns c = check_whole _ _ (reads_whole c.loop-i.invariant (search rules)) (search rules)

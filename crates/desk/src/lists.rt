@@ -1,5 +1,7 @@
 // The questions about a request list: whether it is legal, the bench that is loaded with it, and its replay.
-ghost use Rattle.std.specs.Prelude.{◌≡◌};
+ghost use Rattle.std.specs.Prelude.{◌≡◌, IfOk};
+ghost use Rattle.table.specs.TableReader.{reading_of};
+ghost use Rattle.table.specs.Ready.{shape_of};
 ghost use Rattle.bench.specs.ReplayWritten.{replayed_of};
 ghost use Rattle.desk.specs.ListQuestions.{on_list, counts, loads, replays, list_asked, load_asked, replay_asked};
 ghost use Rattle.desk.specs.FlatList.{flat_listed, flat_ending};
@@ -37,12 +39,22 @@ fn ask_load(table: &[u8], list: &[u8]) -> Result<(usize, Bench), Refusal>
     Ok((records, load(&table, list, records)))
 }
 
+// The table, read in a call of its own: where the reader's ways out lie within `limpidorsa_load`, its bench is copied
+// once more.
+#[inline(never)]
+fn read_apart(table: &[u8]) -> Result<TaskTable<'_>, Refusal>
+    ensures shape { shape_of result ≡ reading_of table.now }
+    ensures bytes { IfOk result (λ read. read.bytes.now ≡ table.now) }
+{
+    TaskTable::read(table)
+}
+
 // The bench loaded with a request list, before tick 0. Refuses with 10 or 11; the bench then has nothing to do.
 pub fn limpidorsa_load<'a, 'b>(table: &'a [u8], list: &'b [u8]) -> Loaded
     ensures { result ≡ flat_loaded (load_asked table.now list.now) }
 {
     // not from what `ask_load` says: a bench within a Result is copied twice more
-    let table = match TaskTable::read(table) {
+    let table = match read_apart(table) {
         Ok(table) => table,
         Err(refusal) => return Loaded::from(Err(refusal)),
     };

@@ -14,7 +14,7 @@ use Rattle.desk.proofs.lists.limpidorsa_load.Goals as goal
 pub returns-in-Err : goal.returns-in-Err
 unfolding load_asked
 returns-in-Err c =
-    let told = sym c.read.ensures.shape ∙ ap shape_of c.in-Err.is in
+    let told = sym c.read_apart.ensures.shape ∙ ap shape_of c.in-Err.is in
     c.from.ensures
     ∙ ap laid_loaded (list_unread c.args.table.now c.args.list.now told loading_pair loads)
     ∙ loaded_laid _
